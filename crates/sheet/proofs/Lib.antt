@@ -1,0 +1,9 @@
+pub mod Sorted
+pub mod Reach
+pub mod Unique
+pub mod SheetLists
+pub mod ReadSheet
+pub mod SheetRuns
+pub mod FirstFault
+pub mod ReadSteps
+pub mod Table

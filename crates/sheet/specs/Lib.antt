@@ -1,0 +1,9 @@
+pub mod Kinds
+pub mod Sheet
+pub mod Walk
+pub mod Conflict
+pub mod ConflictList
+pub mod Rows
+pub mod ReadSheet
+pub mod SheetWords
+pub mod FirstFault
