@@ -7,3 +7,4 @@ pub mod SheetRuns
 pub mod FirstFault
 pub mod ReadSteps
 pub mod Table
+pub mod Drafts

@@ -7,3 +7,5 @@ pub mod Rows
 pub mod ReadSheet
 pub mod SheetWords
 pub mod FirstFault
+pub mod Faults
+pub mod Drafts
