@@ -9,3 +9,4 @@ pub mod SheetWords
 pub mod FirstFault
 pub mod Faults
 pub mod Drafts
+pub mod Tried

@@ -24,3 +24,5 @@ pub struct Draft {
     ghost back_room: { 64 ≤ vec-cap backs },
     ghost fact_room: { 32 ≤ vec-cap facts },
 }
+
+mod checks;
