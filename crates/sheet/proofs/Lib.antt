@@ -8,3 +8,5 @@ pub mod FirstFault
 pub mod ReadSteps
 pub mod Table
 pub mod Drafts
+pub mod Laid
+pub mod Turns

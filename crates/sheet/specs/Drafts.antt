@@ -64,10 +64,10 @@ add-edge I p = record { sets = I .sets; blocks = I .blocks; lblocks = I .lblocks
 abbrev pub add-loop : Items → Header → Items
 add-loop I l = record { sets = I .sets; blocks = I .blocks; lblocks = I .lblocks; edges = I .edges; loops = I .loops ++ (l ∷ []); backs = I .backs; facts = I .facts }
 
-abbrev pub add-back : Items → ℕ → Items
-add-back I p = record {
+abbrev pub add-back : Items → ℕ → ℕ → Items
+add-back I n p = record {
   sets = I .sets; blocks = I .blocks; lblocks = I .lblocks; edges = I .edges; loops = I .loops;
-  backs = I .backs ++ (record { owner = length (I .loops); source = p } ∷ []);
+  backs = I .backs ++ (record { owner = n; source = p } ∷ []);
   facts = I .facts }
 
 abbrev pub add-fact : Items → ℕ → Items

@@ -8,5 +8,7 @@ pub mod ReadSheet
 pub mod SheetWords
 pub mod FirstFault
 pub mod Faults
+pub mod BlockTable
 pub mod Drafts
 pub mod Tried
+pub mod Sections

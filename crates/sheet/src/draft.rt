@@ -26,3 +26,4 @@ pub struct Draft {
 }
 
 mod checks;
+mod items;

@@ -3,3 +3,4 @@ mod draft;
 pub mod fault;
 pub mod parts;
 mod scan;
+mod section;
