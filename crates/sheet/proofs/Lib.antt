@@ -10,3 +10,4 @@ pub mod Table
 pub mod Drafts
 pub mod Laid
 pub mod Turns
+pub mod Pairs

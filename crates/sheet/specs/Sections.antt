@@ -1,26 +1,28 @@
 -- Where the code that reads a sheet stands, as the reader's state. Assumes nothing.
 use mathlib.Core.Path.{_≡_}
-use mathlib.Core.Bool.{true, false}
+use mathlib.Core.Logic.{_⊎_}
+use mathlib.Core.Bool.{true, false, cond}
 use mathlib.Core.List.{List, [], _∷_}
 use mathlib.Core.Option.{none, some}
-use Prim.Native.Nat.{ℕ, suc, _+_, _≤_, _<_}
+use Prim.Native.Nat.{ℕ, suc, _+_, _-_, _≤_, _<_}
+use lib.Dec.{ltb}
 use lib.ListN.{length, getD, take, drop}
 use Rattle.std.specs.shelf.Lists.{All}
 use Rattle.std.specs.declared.option.Option.{Option as Maybe}
 use Rattle.std.specs.declared.option.Option.the-variants.{Some, None}
 use Rattle.std.specs.declared.result.Result.{Result}
 use Rattle.std.specs.declared.result.Result.the-variants.{Ok, Err}
-use Rattle.words.specs.Words.{one-of, not-due, demand, kind, payload, same-kind, Check, first-failing}
+use Rattle.words.specs.Words.{set-field, tag-field, one-of, refusal, ends-early, not-due, demand, kind, payload, same-kind, Check, first-failing, refused}
 use Rattle.sheet.specs.declared.parts.Loop.{Loop as Header}
 use Rattle.sheet.specs.declared.section.Section.{Section}
 use Rattle.sheet.specs.declared.section.Section.the-variants.{Head, First, LBlocks, Blocks, Edges, Loop, Facts}
-use Rattle.sheet.specs.Kinds.{Kind, END}
+use Rattle.sheet.specs.Kinds.{Kind, LBLOCK, COST, END}
 use Rattle.sheet.specs.Sheet.{Sheet}
-use Rattle.sheet.specs.ReadSheet.{Stand, at-head, at-first, at-lblock, at-blocks, at-edges, in-loop, at-facts, State, stands, due, back-words, open-loop, checks, demands, next}
+use Rattle.sheet.specs.ReadSheet.{Stand, at-head, at-first, at-lblock, at-blocks, at-edges, in-loop, at-facts, State, stands, due, back-words, open-loop, checks, demands, next, finished, read-from, lblock-of}
 use Rattle.sheet.specs.declared.fault.SheetFault.{SheetFault}
 use Rattle.sheet.specs.Faults.{sheet-refusal}
 use Rattle.sheet.specs.BlockTable.{Laid}
-use Rattle.sheet.specs.Drafts.{Items, sheet-of, loop-of}
+use Rattle.sheet.specs.Drafts.{Items, sheet-of, loop-of, add-lblock}
 
 abbrev pub no-header : Header
 no-header = record { header = 0; bound = 0 }
@@ -92,3 +94,38 @@ Turn s I k p i rest (Ok (Some t)) J =
     (first-failing (tried s I k p i rest) ≡ none) × (same-kind k END ≡ false) × (next (state-of s I .stand) (state-of s I .read) k p ≡ state-of t J) × Ready t J
 Turn s I k p i rest (Ok None) J = (first-failing (tried s I k p i rest) ≡ none) × (same-kind k END ≡ true) × (J ≡ I)
 Turn s I k p i rest (Err e) J = first-failing (tried s I k p i rest) ≡ some (sheet-refusal e)
+
+-- the section after an l-block of a block that lacked n
+abbrev pub past-lblock : ℕ → Section
+past-lblock n = cond (ltb 1 n) (LBlocks (n - 1)) Blocks
+
+-- Reading on from place i: the words lead to another state, or the fault is the answer.
+abbrev pub Went : List ℕ → Section → Items → ℕ → Result Section SheetFault → Items → ℕ → Type 0
+Went ws s I i (Ok t) J j = Goes ws (state-of s I) i (state-of t J) j × Ready t J
+Went ws s I i (Err e) J j = read-from (state-of s I) (drop i ws) i ≡ refused (sheet-refusal e)
+
+-- The same, or END is read and the items are the sheet's.
+abbrev pub Stepped : List ℕ → Section → Items → ℕ → Result (Maybe Section) SheetFault → Items → ℕ → Type 0
+Stepped ws s I i (Ok (Some t)) J j = Goes ws (state-of s I) i (state-of t J) j × Ready t J
+Stepped ws s I i (Ok None) J j = (read-from (state-of s I) (drop i ws) i ≡ finished (sheet-of I)) × (J ≡ I)
+Stepped ws s I i (Err e) J j = read-from (state-of s I) (drop i ws) i ≡ refused (sheet-refusal e)
+
+-- The fault of an l-block of which so few words are left.
+abbrev pub lblock-demands : Items → ℕ → ℕ → List Check
+lblock-demands I w i = demand (one-of (kind w) (LBLOCK ∷ [])) not-due i ∷ checks (sheet-of I) none LBLOCK (payload w) i []
+
+abbrev pub Cut : Items → List ℕ → ℕ → SheetFault → Type 0
+Cut I [] i e = refusal ends-early i ≡ sheet-refusal e
+Cut I (w ∷ ws) i e = (first-failing (lblock-demands I w i) ≡ some (sheet-refusal e)) ⊎ ((first-failing (lblock-demands I w i) ≡ none) × (refusal ends-early (i + 1) ≡ sheet-refusal e))
+
+abbrev pub cost-demands : ℕ → ℕ → List Check
+cost-demands w i = demand (one-of (kind w) (COST ∷ [])) not-due i ∷ []
+
+-- The two words of an l-block.
+abbrev pub Paired : Items → ℕ → ℕ → ℕ → Result (Unit {0}) SheetFault → Items → Type 0
+Paired I v w i (Ok u) J =
+    (first-failing (lblock-demands I v i) ≡ none) × (first-failing (cost-demands w (i + 1)) ≡ none)
+    × (J ≡ add-lblock I (lblock-of (length (I .blocks) - 1) (set-field (payload v)) (tag-field (payload v)) (payload w)))
+Paired I v w i (Err e) J =
+    (first-failing (lblock-demands I v i) ≡ some (sheet-refusal e))
+    ⊎ ((first-failing (lblock-demands I v i) ≡ none) × (first-failing (cost-demands w (i + 1)) ≡ some (sheet-refusal e)))

@@ -1,7 +1,7 @@
 // Which part of a sheet is being read.
 ghost use mathlib.Core.Path.{_≡_};
 ghost use Rattle.words.specs.Words.{one-of};
-ghost use Rattle.sheet.specs.Sections.{due-in};
+ghost use Rattle.sheet.specs.Sections.{due-in, past-lblock};
 use words::word::Kind;
 
 // Before HEAD; after it; in a block that lacks so many l-blocks; after a whole block; after an edge; in a loop, with its number and its
@@ -30,6 +30,17 @@ impl Section {
             Section::Edges => matches!(kind, Kind::Edge | Kind::Loop | Kind::Fact | Kind::End),
             Section::Loop(_, _) => matches!(kind, Kind::Back | Kind::Loop | Kind::Fact | Kind::End),
             Section::Facts => matches!(kind, Kind::Fact | Kind::End),
+        }
+    }
+
+    // The section after an l-block of a block that lacked so many.
+    pub fn past_lblock(lacking: usize) -> Section
+        ensures { λ r. ⌜ r ≡ past-lblock lacking ⌝ }
+    {
+        if lacking > 1 {
+            Section::LBlocks(lacking - 1)
+        } else {
+            Section::Blocks
         }
     }
 }

@@ -65,7 +65,7 @@ payload-below w = mod-below w (2 ^ 28) (omega arith)
 pub is-word : (w : ℕ) → (kind w ≡ NONE → ⊥) → w ≡ word (kind w) (payload w)
 is-word w h = ⊎-elim (λ e. absurd (h e)) (λ e. sym (shr-split w 28) ∙ ap (λ n. n * 2 ^ 28 + w % 2 ^ 28) (sym e)) (code-at (w / 2 ^ 28))
 
-same-code : (j k : Kind) → code j ≡ code k → j ≡ k
+pub same-code : (j k : Kind) → code j ≡ code k → j ≡ k
 same-code j k e = sym (at-code j) ∙ ap (λ n. getD in-order n NONE) e ∙ at-code k
 
 -- a kind is one of a list

@@ -1,7 +1,7 @@
 // Reading a list of words that the caller lends.
 ghost use mathlib.Core.Path.{_≡_};
 ghost use mathlib.Core.List.{_++_};
-ghost use Prim.Native.Nat.{_+_, _-_, min};
+ghost use Prim.Native.Nat.{_+_, _-_, _^_, _<_, min};
 ghost use lib.ListN.{length, drop};
 ghost use Rattle.words.specs.Taking.{Takes, TakesDue, Passed, counts-test, ends-test};
 use crate::refusal::WordFault;
@@ -59,7 +59,8 @@ impl<'a> Reader<'a> {
 
     // The words that are left.
     pub fn rest(&self) -> &'a [u32]
-        ensures { λ r. ⌜ now r ≡ drop (now (self .entry) .at) (now (now (self .entry) .words)) ⌝ }
+        ensures left { λ r. ⌜ now r ≡ drop (now (self .entry) .at) (now (now (self .entry) .words)) ⌝ }
+        ensures fits { λ r. ⌜ now (self .entry) .at + length (now r) < 2 ^ 64 ⌝ }
     {
         if self.at >= self.words.len() {
             return &[];

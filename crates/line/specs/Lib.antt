@@ -1,0 +1,5 @@
+pub mod Text
+pub mod Fault
+pub mod Fields
+pub mod Written
+pub mod Lines
