@@ -11,3 +11,4 @@ pub mod Drafts
 pub mod Laid
 pub mod Turns
 pub mod Pairs
+pub mod Stepping

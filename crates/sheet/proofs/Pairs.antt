@@ -130,15 +130,17 @@ module _ (I : Items) (n : ℕ) where
     here = word-at 0 ∙ ap (λ k. getD ws k 0) (add-zero i)
 
     pair-goes : (J : Items) (t : Section) (j : ℕ) → 2 ≤ length xs → Ready (LBlocks n) I → Paired I (getD xs 0 0) (getD xs 1 0) i (Ok tt) J → t ≡ past-lblock n → j ≡ i + 2
-        → Goes ws (state-of (LBlocks n) I) i (state-of t J) j × Ready t J
-    pair-goes J t j l r f e q = subst (λ t. Goes ws (state-of (LBlocks n) I) i (state-of t J) j × Ready t J) (sym e) (
+        → Goes ws (state-of (LBlocks n) I) i (state-of t J) j × Ready t J × (i < j) × (j ≤ length ws)
+    pair-goes J t j l r f e q = subst (λ t. Goes ws (state-of (LBlocks n) I) i (state-of t J) j × Ready t J × (i < j) × (j ≤ length ws)) (sym e) (
       subst (λ j. Goes ws (state-of (LBlocks n) I) i (state-of (past-lblock n) J) j) (omega (arith, q))
           (two-words ws i J (omega (arith, left)) (subst (λ v. Paired I v (getD ws (i + 1) 0) i (Ok tt) J) here (subst (λ w. Paired I (getD xs 0 0) w i (Ok tt) J) (word-at 1) f))),
       ready-past J (set-field (payload (getD xs 0 0))) (tag-field (payload (getD xs 0 0))) (payload (getD xs 1 0)) r (f .2),
+      omega arith,
+      omega (arith, left),
     )
 
     pub pair-went : (a : ℕ) (J : Items) (t : Section) (j : ℕ) → a ≡ i → 2 ≤ length xs → Ready (LBlocks n) I → Paired I (getD xs 0 0) (getD xs 1 0) a (Ok tt) J → t ≡ past-lblock n → j ≡ i + 2
-        → Goes ws (state-of (LBlocks n) I) i (state-of t J) j × Ready t J
+        → Goes ws (state-of (LBlocks n) I) i (state-of t J) j × Ready t J × (i < j) × (j ≤ length ws)
     pair-went a J t j z l r f e q = pair-goes J t j l r (subst (λ a. Paired I (getD xs 0 0) (getD xs 1 0) a (Ok tt) J) z f) e q
 
     pair-breaks : (J : Items) (e : SheetFault) → 2 ≤ length xs → Paired I (getD xs 0 0) (getD xs 1 0) i (Err e) J → read-from (state-of (LBlocks n) I) (drop i ws) i ≡ refused (sheet-refusal e)

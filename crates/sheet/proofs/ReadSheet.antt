@@ -16,7 +16,7 @@ use Rattle.std.proofs.shelf.Sums.{sumBy-push}
 use Rattle.std.proofs.shelf.Tests.{false≢true, eqb-true, eqb-false, not-true, ltb-true, ltb-false, and-parts, leb-true, cases-eq}
 use Rattle.std.proofs.shelf.Bits.{mod-below, shr-below}
 use Rattle.words.specs.Lists.{below, any, joined}
-use Rattle.sheet.specs.Sheet.{Sheet, LBlock, Edge, Loop, Fact, last-block, no-lblock}
+use Rattle.sheet.specs.Sheet.{WellFormed, Sheet, LBlock, Edge, Loop, Fact, last-block, no-lblock}
 use Rattle.sheet.specs.Conflict.{used-sets}
 use Rattle.sheet.specs.ConflictList.{conflicts-of, conflicts}
 use Rattle.sheet.specs.Walk.{edge, entry}
@@ -588,11 +588,14 @@ pub read-fits : (ws : List ℕ) (S : Sheet) → read-sheet ws ≡ accepted S →
 read-fits ws S e = sound S ws start 0 (refl, refl, record { no-edges = refl; no-loops = refl; no-facts = refl }) refl e
 
 -- a sheet that fits is well-formed
-pub fits-well-formed : FitsWellFormed
-fits-well-formed S f = record {
-  starts = f .parts .some-block;
-  filled = λ b h. subst (λ n. 0 < n) (sym (fetches-length S b)) (f .parts .blocks-fit .filled b h .0);
-  few-sets = f .parts .blocks-fit .few-sets;
-  in-sets = λ v h. all-getD (λ x. x .set < S .sets) (S .lblocks) v no-lblock h (all-weaker _ _ (λ x k. k .in-set) (S .lblocks) (f .parts .blocks-fit .each));
-  joins-blocks = all-weaker _ _ (λ e k. (k .from-block, k .to-block)) (S .edges) (f .parts .edges-fit .each);
+pub parts-well-formed : (S : Sheet) → PartsFit S → WellFormed S
+parts-well-formed S f = record {
+  starts = f .some-block;
+  filled = λ b h. subst (λ n. 0 < n) (sym (fetches-length S b)) (f .blocks-fit .filled b h .0);
+  few-sets = f .blocks-fit .few-sets;
+  in-sets = λ v h. all-getD (λ x. x .set < S .sets) (S .lblocks) v no-lblock h (all-weaker _ _ (λ x k. k .in-set) (S .lblocks) (f .blocks-fit .each));
+  joins-blocks = all-weaker _ _ (λ e k. (k .from-block, k .to-block)) (S .edges) (f .edges-fit .each);
 }
+
+pub fits-well-formed : FitsWellFormed
+fits-well-formed S f = parts-well-formed S (f .parts)

@@ -12,3 +12,4 @@ pub mod BlockTable
 pub mod Drafts
 pub mod Tried
 pub mod Sections
+pub mod Reads

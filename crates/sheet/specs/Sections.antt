@@ -101,13 +101,14 @@ past-lblock n = cond (ltb 1 n) (LBlocks (n - 1)) Blocks
 
 -- Reading on from place i: the words lead to another state, or the fault is the answer.
 abbrev pub Went : List ℕ → Section → Items → ℕ → Result Section SheetFault → Items → ℕ → Type 0
-Went ws s I i (Ok t) J j = Goes ws (state-of s I) i (state-of t J) j × Ready t J
+Went ws s I i (Ok t) J j = Goes ws (state-of s I) i (state-of t J) j × Ready t J × (i < j) × (j ≤ length ws)
 Went ws s I i (Err e) J j = read-from (state-of s I) (drop i ws) i ≡ refused (sheet-refusal e)
 
--- The same, or END is read and the items are the sheet's.
+-- The same, or END is read and the items stay.
 abbrev pub Stepped : List ℕ → Section → Items → ℕ → Result (Maybe Section) SheetFault → Items → ℕ → Type 0
-Stepped ws s I i (Ok (Some t)) J j = Goes ws (state-of s I) i (state-of t J) j × Ready t J
-Stepped ws s I i (Ok None) J j = (read-from (state-of s I) (drop i ws) i ≡ finished (sheet-of I)) × (J ≡ I)
+Stepped ws s I i (Ok (Some t)) J j = Goes ws (state-of s I) i (state-of t J) j × Ready t J × (i < j) × (j ≤ length ws)
+Stepped ws s I i (Ok None) J j =
+    (i < length ws) × (first-failing (demands (state-of s I) (getD ws i 0) i (drop (i + 1) ws)) ≡ none) × (same-kind (kind (getD ws i 0)) END ≡ true) × (J ≡ I)
 Stepped ws s I i (Err e) J j = read-from (state-of s I) (drop i ws) i ≡ refused (sheet-refusal e)
 
 -- The fault of an l-block of which so few words are left.

@@ -27,3 +27,4 @@ pub struct Draft {
 
 mod checks;
 mod items;
+mod read;

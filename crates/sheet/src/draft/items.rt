@@ -10,6 +10,7 @@ ghost use Rattle.sheet.specs.Tried.{items-of};
 use crate::draft::Draft;
 use crate::draft::checks::demand;
 use crate::fault::SheetFault;
+use crate::fault::SheetFaultFromWord;
 use crate::section::Section;
 use words::reader::Reader;
 use words::refusal::WordFault;
@@ -141,5 +142,20 @@ impl Draft {
         self.lblock_words(*first, *second, at)?;
         reader.skip(words.len() - rest.len());
         Ok(Section::past_lblock(lacking))
+    }
+
+    // The next item, or the end of the sheet.
+    pub fn step(&mut self, section: Section, reader: &mut Reader) -> Result<Option<Section>, SheetFault>
+        requires { ⌜ Ready section (items-of (now self)) ⌝ }
+        ensures same { λ _. ⌜ now (reader .exit) .words ≡ now (reader .entry) .words ⌝ }
+        ensures stepped { λ r. ⌜ Stepped (now (now (reader .entry) .words)) section (items-of (now (self .entry))) (now (reader .entry) .at) r (items-of (now (self .exit))) (now (reader .exit) .at) ⌝ }
+    {
+        if let Section::LBlocks(lacking) = section {
+            let next = self.lblock(lacking, reader)?;
+            return Ok(Some(next));
+        }
+        let at = reader.place();
+        let word = reader.next()?;
+        self.item(section, word, at, reader)
     }
 }
