@@ -12,3 +12,5 @@ pub mod Laid
 pub mod Turns
 pub mod Pairs
 pub mod Stepping
+pub mod Counts
+pub mod Blank

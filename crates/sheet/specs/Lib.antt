@@ -13,3 +13,5 @@ pub mod Drafts
 pub mod Tried
 pub mod Sections
 pub mod Reads
+pub mod Kept
+pub mod View

@@ -4,3 +4,4 @@ pub mod fault;
 pub mod parts;
 mod scan;
 mod section;
+pub mod timing;
