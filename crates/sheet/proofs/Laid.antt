@@ -8,8 +8,7 @@ use lib.ListN.{length, getD}
 use Rattle.std.proofs.shelf.Lists.{getD-append-left, getD-push, length-push}
 use Rattle.std.proofs.shelf.Tests.{cases-eq}
 use Rattle.sheet.specs.Sheet.{Sheet, LBlock, no-lblock}
-use Rattle.sheet.specs.BlockTable.{Block, no-block, first-of, size-of, count-of, block-of, Laid}
-use Rattle.sheet.proofs.Table.{Table}
+use Rattle.sheet.specs.BlockTable.{Block, no-block, first-of, size-of, count-of, block-of, Laid, Table}
 
 pub laid-none : Laid [] [] 0
 laid-none = record {

@@ -14,3 +14,8 @@ pub mod Pairs
 pub mod Stepping
 pub mod Counts
 pub mod Blank
+pub mod Links
+pub mod Front
+pub mod Nodes
+pub mod Added
+pub mod SameGraph

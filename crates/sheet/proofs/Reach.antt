@@ -91,7 +91,7 @@ module _ (S : Sheet) where
   arrow-complete (ends {u = u} us e) = last-complete (fetches S (last-block S)) u us e
 
   -- an arrow leaves START or an l-block, and enters an l-block or END
-  leaves : {x y : Node} → Arrow S x y → (x ≡ START) ⊎ ((k : ℕ) × (x ≡ at k) × (k < length (S .lblocks)))
+  pub leaves : {x y : Node} → Arrow S x y → (x ≡ START) ⊎ ((k : ℕ) × (x ≡ at k) × (k < length (S .lblocks)))
   leaves (starts vs e) = inl refl
   leaves (next {u = u} {v = v} b us vs e) = inr (u, refl, own-at b u us (v ∷ vs) e .1)
   leaves (crosses {u = u} a b us vs h e f) = inr (u, refl, own-at a u us [] e .1)
@@ -104,7 +104,7 @@ module _ (S : Sheet) where
   enters (ends us e) = inl refl
 
   module _ (s : ℕ) where
-    reaches : {u v : Node} → Leads S s u v → (v ≡ END) ⊎ ((k : ℕ) × (v ≡ at k) × (k < length (S .lblocks)))
+    pub reaches : {u v : Node} → Leads S s u v → (v ≡ END) ⊎ ((k : ℕ) × (v ≡ at k) × (k < length (S .lblocks)))
     reaches (one a) = enters a
     reaches (more l n a) = enters a
 
@@ -133,7 +133,7 @@ module _ (S : Sheet) where
           all-kept (λ v. Unit {0}) (λ x. Leads S s u (at x)) (λ v. found S s u (reached S s u n) (at v))
           (λ v h t. found-sound (reached S s u n) (reached-sound n) (at v) t) (below L) (all-below (λ v. Unit {0}) L (λ k h. tt))
 
-      leads-sound : (n : ℕ) (v : Node) → leads n v ≡ true → Leads S s u v
+      pub leads-sound : (n : ℕ) (v : Node) → leads n v ≡ true → Leads S s u v
       leads-sound n v t = found-sound (reached S s u n) (reached-sound n) v t
 
       -- one arrow more
@@ -200,7 +200,7 @@ module _ (S : Sheet) where
           go (inr h) true e = inr (omega (arith, grows .1 e))
           go (inr h) false e = inl (n, omega arith, e)
 
-      conflicting-complete : {v : Node} → Leads S s u v → conflicting S s u v ≡ true
+      pub conflicting-complete : {v : Node} → Leads S s u v → conflicting S s u v ≡ true
       conflicting-complete {v} h = ⊎-elim
           (λ r. let l = r .1 in leads-up (suc L) (suc (r .0)) v (omega arith) (closed (r .0) (r .2) h))
           (λ l. absurd (omega (arith, count-le-length (λ x. leads (suc L) (at x)) (below L), length-below L)))

@@ -14,6 +14,7 @@ use Rattle.std.proofs.shelf.Tests.{eq-eqb, ne-eqb, cases-eq, cases-lt}
 use Rattle.words.specs.Lists.{up-from}
 use Rattle.sheet.specs.Sheet.{Sheet, lblock, fetches, WellFormed, last-block}
 use Rattle.sheet.specs.Walk.{edge}
+use Rattle.sheet.specs.Graph.{Holds, Table}
 use Rattle.sheet.specs.Conflict.{Node, START, at, END, Arrow, starts, next, crosses, ends}
 
 -- numbers in a row
@@ -29,12 +30,6 @@ kept-none p i (suc n) h = rw (h i (omega arith) (omega arith)) (kept-none p (suc
 kept-each : (p : ℕ → Bool) (i n : ℕ) → ((k : ℕ) → i ≤ k → k < i + n → p k ≡ true) → kept-by p (up-from i n) ≡ up-from i n
 kept-each p i zero h = refl
 kept-each p i (suc n) h = rw (h i (omega arith) (omega arith)) (ap (λ r. i ∷ r) (kept-each p (suc i) n (λ k l u. h k (omega arith) (omega arith))))
-
--- l-blocks f to f + n - 1 are those of block b
-pub record Holds (S : Sheet) (b f n : ℕ) : Type 0 where
-  pub fits : f + n ≤ length (S .lblocks)
-  pub inside : (v : ℕ) → f ≤ v → v < f + n → lblock S v .block ≡ b
-  pub outside : (v : ℕ) → v < length (S .lblocks) → lblock S v .block ≡ b → (f ≤ v) × (v < f + n)
 
 pub fetches-are : (S : Sheet) (b f n : ℕ) → Holds S b f n → fetches S b ≡ up-from f n
 fetches-are S b f n h =
@@ -97,11 +92,6 @@ row-end : (n f : ℕ) → (us : List ℕ) × (up-from f (suc n) ≡ us ++ ((f + 
 row-end zero f = ([], ap (λ k. k ∷ []) (sym (add-zero f)))
 row-end (suc n) f = let r = row-end n (suc f) in (f ∷ r .0, ap (λ x. f ∷ x) (r .1 ∙ ap (λ k. r .0 ++ (k ∷ [])) (omega arith)))
 
--- every block's l-blocks, one or more, are in a row
-pub record Table (S : Sheet) (first size : ℕ → ℕ) : Type 0 where
-  pub holds : (b : ℕ) → b < S .blocks → Holds S b (first b) (suc (size b))
-  pub owned : (v : ℕ) → v < length (S .lblocks) → lblock S v .block < S .blocks
-
 -- the arrows, by the table; `size b` is one less than there are l-blocks, so that the last is `first b + size b`
 pub data TableArrow (S : Sheet) (first size : ℕ → ℕ) (x y : Node) : Type 0 where
   from-start : x ≡ START → y ≡ at (first 0) → TableArrow S first size x y
@@ -113,7 +103,7 @@ module _ (S : Sheet) (wf : WellFormed S) (first size : ℕ → ℕ) (table : Tab
   row : (b : ℕ) → b < S .blocks → fetches S b ≡ up-from (first b) (suc (size b))
   row b lt = fetches-are S b (first b) (suc (size b)) (table .holds b lt)
 
-  ends-of : (a b : ℕ) → Has (S .edges) (edge a b) → (a < S .blocks) × (b < S .blocks)
+  pub ends-of : (a b : ℕ) → Has (S .edges) (edge a b) → (a < S .blocks) × (b < S .blocks)
   ends-of a b h = all-has (λ e. (e .from < S .blocks) × (e .to < S .blocks)) (S .edges) (edge a b) (wf .joins-blocks) h
 
   final : last-block S < S .blocks

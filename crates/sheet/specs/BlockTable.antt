@@ -3,7 +3,7 @@ use mathlib.Core.Path.{_≡_}
 use mathlib.Core.List.{List}
 use Prim.Native.Nat.{ℕ, suc, _+_, _-_, _≤_, _<_}
 use lib.ListN.{length, getD}
-use Rattle.sheet.specs.Sheet.{LBlock, no-lblock}
+use Rattle.sheet.specs.Sheet.{Sheet, LBlock, no-lblock, lblock}
 pub use Rattle.sheet.specs.declared.parts.Block.{Block}
 
 abbrev pub no-block : Block
@@ -34,3 +34,14 @@ pub record Laid (bs : List Block) (vs : List LBlock) (lacking : ℕ) : Type 0 wh
   pub inside : (b v : ℕ) → b < length bs → v < length vs → first-of bs b ≤ v → v < first-of bs b + count-of bs b → block-of vs v ≡ b
   pub outside : (b v : ℕ) → b < length bs → v < length vs → block-of vs v ≡ b → (first-of bs b ≤ v) × (v < first-of bs b + count-of bs b)
   pub owned : (v : ℕ) → v < length vs → block-of vs v < length bs
+
+-- l-blocks f to f + n - 1 are those of block b
+pub record Holds (S : Sheet) (b f n : ℕ) : Type 0 where
+  pub fits : f + n ≤ length (S .lblocks)
+  pub inside : (v : ℕ) → f ≤ v → v < f + n → lblock S v .block ≡ b
+  pub outside : (v : ℕ) → v < length (S .lblocks) → lblock S v .block ≡ b → (f ≤ v) × (v < f + n)
+
+-- every block's l-blocks, one or more, are in a row
+pub record Table (S : Sheet) (first size : ℕ → ℕ) : Type 0 where
+  pub holds : (b : ℕ) → b < S .blocks → Holds S b (first b) (suc (size b))
+  pub owned : (v : ℕ) → v < length (S .lblocks) → lblock S v .block < S .blocks

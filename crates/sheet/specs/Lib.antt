@@ -15,3 +15,5 @@ pub mod Sections
 pub mod Reads
 pub mod Kept
 pub mod View
+pub mod Graph
+pub mod Search

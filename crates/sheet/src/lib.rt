@@ -3,5 +3,6 @@ mod draft;
 pub mod fault;
 pub mod parts;
 mod scan;
+mod search;
 mod section;
 pub mod timing;
