@@ -19,3 +19,4 @@ pub mod Front
 pub mod Nodes
 pub mod Added
 pub mod SameGraph
+pub mod Used

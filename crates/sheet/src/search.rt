@@ -1,6 +1,6 @@
 // The search for the conflict edges of a sheet, in memory that is reserved once.
 mod graph;
-mod list;
+pub mod list;
 mod reach;
 
 ghost use Prim.Native.Nat.{_≤_};

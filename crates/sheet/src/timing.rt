@@ -31,3 +31,4 @@ pub struct Sheet {
 
 mod blank;
 mod parts;
+mod replace;

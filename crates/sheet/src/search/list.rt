@@ -174,7 +174,7 @@ impl Reach {
 }
 
 // Whether an l-block has the set.
-fn is_used(lblocks: &[LBlock], set: usize) -> bool
+pub fn is_used(lblocks: &[LBlock], set: usize) -> bool
     ensures { λ r. ⌜ r ≡ any (λ b. eqb (b .set) set) (now (lblocks .entry)) ⌝ }
 {
     for b in lblocks {
