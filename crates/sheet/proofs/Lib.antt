@@ -20,3 +20,4 @@ pub mod Nodes
 pub mod Added
 pub mod SameGraph
 pub mod Used
+pub mod Finding

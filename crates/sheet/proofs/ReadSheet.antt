@@ -513,7 +513,7 @@ passing-none S (s ∷ ss) t h e = go (leb (t + length (conflicts-of S s)) 4096) 
     go true q e more = omega (arith, more (leb-true total 4096 q) e, length-append (conflicts-of S s) (joined (conflicts-of S) ss))
     go false q e more = let z : _≡_ {A = ℕ} 0 1 = cc in absurd (omega arith)
 
-finished-is : (T R : Sheet) → finished T ≡ accepted R → (T ≡ R) × (length (conflicts T) ≤ 4096)
+pub finished-is : (T R : Sheet) → finished T ≡ accepted R → (T ≡ R) × (length (conflicts T) ≤ 4096)
 finished-is T R e = go (passing T (used-sets T) 0) refl e
   where
     go : (o : Option ℕ) → passing T (used-sets T) 0 ≡ o

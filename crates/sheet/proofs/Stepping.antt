@@ -123,11 +123,11 @@ module _ (ws vs : List ℕ) (s : Section) (I J : Items) (i j : ℕ) (g : Goes ws
   pub loop-again : (o : Maybe Section) (t : Section) → o ≡ Some t → Stepped vs s I i (Ok o) J j → Goes ws start 0 (state-of t J) j × Ready t J
   loop-again o t q f = let k = subst (λ vs. Stepped vs s I i (Ok (Some t)) J j) v (subst (λ o. Stepped vs s I i (Ok o) J j) q f) in (goes-on ws start 0 (state-of s I) i g (state-of t J) j (k .0), k .1)
 
-  pub loop-ends : (o : Maybe Section) → o ≡ None → Ready s I → Stepped vs s I i (Ok o) J j → (read-sheet ws ≡ finished (sheet-of J)) × PartsFit (sheet-of J) × Laid (J .blocks) (J .lblocks) 0
+  pub loop-ends : (o : Maybe Section) → o ≡ None → Ready s I → Stepped vs s I i (Ok o) J j → (read-sheet ws ≡ finished (sheet-of J)) × (PartsFit (sheet-of J) × Laid (J .blocks) (J .lblocks) 0)
   loop-ends o q r f =
       let k = subst (λ vs. Stepped vs s I i (Ok None) J j) v (subst (λ o. Stepped vs s I i (Ok o) J j) q f) in
-      subst (λ J. (read-sheet ws ≡ finished (sheet-of J)) × PartsFit (sheet-of J) × Laid (J .blocks) (J .lblocks) 0) (sym (k .3))
-      (read-finished ws s I i g r (k .0) (k .1) (k .2), read-parts ws s I i g r (k .0) (k .1) (k .2), read-laid ws s I i g r (k .0) (k .1) (k .2))
+      subst (λ J. (read-sheet ws ≡ finished (sheet-of J)) × (PartsFit (sheet-of J) × Laid (J .blocks) (J .lblocks) 0)) (sym (k .3))
+      (read-finished ws s I i g r (k .0) (k .1) (k .2), (read-parts ws s I i g r (k .0) (k .1) (k .2), read-laid ws s I i g r (k .0) (k .1) (k .2)))
 
   pub loop-breaks : (x : SheetFault) → Stepped vs s I i (Err x) J j → read-sheet ws ≡ refused (sheet-refusal x)
   loop-breaks x f = read-refused ws s I i x g (subst (λ vs. Stepped vs s I i (Err x) J j) v f)

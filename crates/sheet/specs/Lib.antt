@@ -12,8 +12,8 @@ pub mod BlockTable
 pub mod Drafts
 pub mod Tried
 pub mod Sections
-pub mod Reads
 pub mod Kept
 pub mod View
+pub mod Reads
 pub mod Graph
 pub mod Search

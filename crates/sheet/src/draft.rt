@@ -26,5 +26,6 @@ pub struct Draft {
 }
 
 mod checks;
+mod conflicts;
 mod items;
 mod read;

@@ -2,6 +2,7 @@
 mod draft;
 pub mod fault;
 pub mod parts;
+pub mod room;
 mod scan;
 mod search;
 mod section;

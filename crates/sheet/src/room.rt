@@ -1,0 +1,19 @@
+// Memory for a sheet and for reading the next one.
+ghost use Prim.Native.Nat.{_≤_};
+ghost use Rattle.std.specs.Of.Vec.{vec-cap};
+use crate::draft::Draft;
+use crate::parts::Conflict;
+use crate::search::Search;
+use crate::timing::Sheet;
+
+// The sheet that is held, and the memory in which the next one is read.
+#[derive(Drop)]
+pub struct SheetRoom {
+    sheet: Sheet,
+    draft: Draft,
+    conflicts: Vec<Conflict>,
+    search: Search,
+    ghost space: { 4096 ≤ vec-cap conflicts },
+}
+
+mod read;
