@@ -1,0 +1,3 @@
+// What the program does with its input, as functions on values.
+pub mod input;
+pub mod report;

@@ -1,0 +1,66 @@
+// The marker: memory for a sheet and its words, and the lines that are printed.
+ghost use mathlib.Core.Path.{_≡_};
+ghost use Prim.Native.Nat.{_≤_};
+ghost use Rattle.std.specs.Of.Vec.{vec-cap};
+ghost use Rattle.std.specs.Vec.{made};
+ghost use Rattle.line.specs.Written.{Written};
+ghost use Rattle.sheet.specs.View.{view, blank};
+ghost use Rattle.marker.specs.Input.{first-list};
+ghost use Rattle.marker.specs.Report.{numbers-of, sheet-report, HeldAfter};
+use crate::input::MOST_WORDS;
+use crate::input::take_list;
+use line::fault::LineFault;
+use line::lines::Item;
+use line::lines::SheetNumbers;
+use line::lines::refusal_line;
+use line::lines::sheet_line;
+use sheet::fault::SheetFaultRefuse;
+use sheet::room::SheetRoom;
+use sheet::timing::Sheet;
+use std::alloc::AllocError;
+use std::alloc::Global;
+
+// All the memory that marking takes.
+#[derive(Drop)]
+pub struct Marker {
+    room: SheetRoom,
+    words: Vec<u32>,
+    ghost space: { 4096 ≤ vec-cap words },
+}
+
+// How many there are of each part of a sheet.
+pub fn numbers(sheet: &Sheet) -> SheetNumbers
+    ensures { λ r. ⌜ r ≡ numbers-of (view (now (sheet .entry))) ⌝ }
+{
+    SheetNumbers {
+        blocks: sheet.blocks().len(),
+        edges: sheet.edges().len(),
+        lblocks: sheet.lblocks().len(),
+        rows: sheet.rows(),
+        columns: sheet.columns(),
+    }
+}
+
+impl Marker {
+    // Reserves the memory. The sheet is the blank one.
+    pub fn reserve(heap: Global) -> Result<Marker, AllocError>
+        ensures { λ r. ⌜ made r (λ m. view (m .room .sheet) ≡ blank) ⌝ }
+    {
+        Ok(Marker {
+            room: SheetRoom::reserve(heap)?,
+            words: Vec::with_capacity(heap, MOST_WORDS)?,
+        })
+    }
+
+    // Reads the sheet that the input begins with, and writes its line, or that of its refusal, at a place of the output.
+    pub fn sheet(&mut self, input: &[u8], out: &mut [u8], at: usize) -> Result<usize, LineFault>
+        ensures written { λ r. ⌜ Written (now (out .entry)) at (sheet-report (now (input .entry))) r (now (out .exit)) ⌝ }
+        ensures held { λ _. ⌜ HeldAfter (first-list (now (input .entry))) (now (self .entry) .room .sheet) (now (self .exit) .room .sheet) ⌝ }
+    {
+        take_list(input, &mut self.words);
+        match self.room.read(&self.words) {
+            Ok(()) => sheet_line(out, at, &numbers(self.room.sheet())),
+            Err(fault) => refusal_line(out, at, Item::Sheet, &fault),
+        }
+    }
+}
