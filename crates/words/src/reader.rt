@@ -27,7 +27,8 @@ impl<'a> Reader<'a> {
     pub fn place(&self) -> usize
         ensures { λ r. ⌜ r ≡ now (self .entry) .at ⌝ }
     {
-        self.at
+        let place = self.at;
+        place
     }
 
     // The next word, or that the list has ended.
