@@ -17,8 +17,15 @@ mapped f n = length-map (below n) f ∙ length-below n
 pub length-columns : (S : Sheet) (cs : List Conflict) → length (columns S cs) ≡ S .blocks + length (S .edges) + length (S .lblocks) + length cs
 length-columns S cs =
     length-append (map N (below (S .blocks)) ++ map T (S .edges) ++ map M (below (length (S .lblocks)))) (map P cs)
-    ∙ omega (arith, length-append (map N (below (S .blocks)) ++ map T (S .edges)) (map M (below (length (S .lblocks)))), length-append (map N (below (S .blocks))) (map T (S .edges)),
-    mapped N (S .blocks), length-map (S .edges) T, mapped M (length (S .lblocks)), length-map cs P)
+    ∙ omega (
+      arith,
+      length-append (map N (below (S .blocks)) ++ map T (S .edges)) (map M (below (length (S .lblocks)))),
+      length-append (map N (below (S .blocks))) (map T (S .edges)),
+      mapped N (S .blocks),
+      length-map (S .edges) T,
+      mapped M (length (S .lblocks)),
+      length-map cs P,
+    )
 
 pub length-rows : (S : Sheet) → length (rows S) ≡ 2 * S .blocks + length (S .loops) + length (S .facts) + 3 * length (S .lblocks) + length (used-sets S)
 length-rows S = go (map in-row (below (S .blocks))) (map out-row (below (S .blocks))) (map loop-row (S .loops)) (map fact-row (S .facts)) (map arrival-row (below (length (S .lblocks))))

@@ -112,10 +112,10 @@ module _ (bs : List Block) (vs : List LBlock) (n : ℕ) (v : LBlock) (l : Laid b
 -- blocks all whole are a table
 pub laid-table : (S : Sheet) (bs : List Block) → Laid bs (S .lblocks) 0 → S .blocks ≡ length bs → Table S (first-of bs) (size-of bs)
 laid-table S bs l e = record {
-    holds = λ b lt. let k : b < length bs = omega arith in let f = l .filled b k in let z = laid-fits bs (S .lblocks) l b k in record {
-      fits = omega arith;
-      inside = λ v g u. l .inside b v k (omega arith) g (omega arith);
-      outside = λ v u q. let r = l .outside b v k u q in (r .0, omega arith);
-    };
-    owned = λ v u. omega (arith, l .owned v u);
-  }
+  holds = λ b lt. let k : b < length bs = omega arith in let f = l .filled b k in let z = laid-fits bs (S .lblocks) l b k in record {
+    fits = omega arith;
+    inside = λ v g u. l .inside b v k (omega arith) g (omega arith);
+    outside = λ v u q. let r = l .outside b v k u q in (r .0, omega arith);
+  };
+  owned = λ v u. omega (arith, l .owned v u);
+}

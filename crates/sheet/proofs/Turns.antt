@@ -200,9 +200,16 @@ ready-back n hd I p r = record {
   is-open = r .is-open;
   owned = all-push _ (I .backs) new (r .owned) (omega (arith, r .is-open .0));
   counted =
-      omega (arith, words-are (I .backs ++ (new ∷ [])), words-are (I .backs), r .counted, length-push (I .backs) new,
-      ap (sumBy (λ l. length (l .backs))) (loops-back (I .backs) n p 0 (take n (I .loops)) (omega (arith, before-length I n (r .is-open .0)))),
-      ap length (back-own (I .backs) n p), length-push (backs-of (I .backs) n) p);
+      omega (
+        arith,
+        words-are (I .backs ++ (new ∷ [])),
+        words-are (I .backs),
+        r .counted,
+        length-push (I .backs) new,
+        ap (sumBy (λ l. length (l .backs))) (loops-back (I .backs) n p 0 (take n (I .loops)) (omega (arith, before-length I n (r .is-open .0)))),
+        ap length (back-own (I .backs) n p),
+        length-push (backs-of (I .backs) n) p,
+      );
   laid = r .laid;
 }
   where

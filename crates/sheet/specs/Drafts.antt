@@ -53,7 +53,12 @@ abbrev pub add-block : Items → ℕ → Items
 add-block I p = record {
   sets = I .sets;
   blocks = I .blocks ++ (record { first = length (I .lblocks); lblocks = p } ∷ []);
-  lblocks = I .lblocks; edges = I .edges; loops = I .loops; backs = I .backs; facts = I .facts }
+  lblocks = I .lblocks;
+  edges = I .edges;
+  loops = I .loops;
+  backs = I .backs;
+  facts = I .facts;
+}
 
 abbrev pub add-lblock : Items → LBlock → Items
 add-lblock I v = record { sets = I .sets; blocks = I .blocks; lblocks = I .lblocks ++ (v ∷ []); edges = I .edges; loops = I .loops; backs = I .backs; facts = I .facts }
@@ -66,9 +71,14 @@ add-loop I l = record { sets = I .sets; blocks = I .blocks; lblocks = I .lblocks
 
 abbrev pub add-back : Items → ℕ → ℕ → Items
 add-back I n p = record {
-  sets = I .sets; blocks = I .blocks; lblocks = I .lblocks; edges = I .edges; loops = I .loops;
+  sets = I .sets;
+  blocks = I .blocks;
+  lblocks = I .lblocks;
+  edges = I .edges;
+  loops = I .loops;
   backs = I .backs ++ (record { owner = n; source = p } ∷ []);
-  facts = I .facts }
+  facts = I .facts;
+}
 
 abbrev pub add-fact : Items → ℕ → Items
 add-fact I p = record { sets = I .sets; blocks = I .blocks; lblocks = I .lblocks; edges = I .edges; loops = I .loops; backs = I .backs; facts = I .facts ++ (fact-of p ∷ []) }

@@ -26,7 +26,10 @@ impl Section {
             Section::Head => matches!(kind, Kind::Head),
             Section::First => matches!(kind, Kind::Block),
             Section::LBlocks(_) => matches!(kind, Kind::LBlock),
-            Section::Blocks => matches!(kind, Kind::Block | Kind::Edge | Kind::Loop | Kind::Fact | Kind::End),
+            Section::Blocks => matches!(
+                kind,
+                Kind::Block | Kind::Edge | Kind::Loop | Kind::Fact | Kind::End
+            ),
             Section::Edges => matches!(kind, Kind::Edge | Kind::Loop | Kind::Fact | Kind::End),
             Section::Loop(_, _) => matches!(kind, Kind::Back | Kind::Loop | Kind::Fact | Kind::End),
             Section::Facts => matches!(kind, Kind::Fact | Kind::End),

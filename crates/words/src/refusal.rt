@@ -49,6 +49,10 @@ pub impl Refuse for WordFault as WordFaultRefuse {
             WordFault::WrongEnd(place) => (3, place),
             WordFault::OutOfLimit(place) => (4, place),
         };
-        Refusal { number, place, layer: Layer::Words }
+        Refusal {
+            number,
+            place,
+            layer: Layer::Words,
+        }
     }
 }

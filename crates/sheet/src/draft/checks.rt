@@ -34,10 +34,15 @@ use words::word::Payload;
 use words::word::Word;
 
 const MOST_BLOCKS: usize = 128;
+
 const MOST_LBLOCKS: usize = 512;
+
 const MOST_EDGES: usize = 512;
+
 const MOST_LOOPS: usize = 32;
+
 const MOST_BACKS: usize = 64;
+
 const MOST_FACTS: usize = 32;
 
 // Refuses with this fault unless the test holds.
@@ -52,7 +57,10 @@ impl Draft {
         ensures { λ r. ⌜ Added (checks (sheet-of (items-of (now (self .entry)))) none HEAD (payload .0) at []) (add-head (items-of (now (self .entry))) (payload .0)) r (items-of (now (self .exit))) ⌝ }
     {
         let sets = payload.0 as usize;
-        demand(1 <= sets && sets <= 64, SheetFault::Word(WordFault::OutOfLimit(at)))?;
+        demand(
+            1 <= sets && sets <= 64,
+            SheetFault::Word(WordFault::OutOfLimit(at)),
+        )?;
         self.sets = sets;
         Ok(())
     }
@@ -61,7 +69,10 @@ impl Draft {
         ensures { λ r. ⌜ Added (checks (sheet-of (items-of (now (self .entry)))) none BLOCK (payload .0) at []) (add-block (items-of (now (self .entry))) (payload .0)) r (items-of (now (self .exit))) ⌝ }
     {
         let lblocks = payload.0 as usize;
-        demand(1 <= lblocks && lblocks <= 16, SheetFault::Word(WordFault::OutOfLimit(at)))?;
+        demand(
+            1 <= lblocks && lblocks <= 16,
+            SheetFault::Word(WordFault::OutOfLimit(at)),
+        )?;
         demand(self.blocks.len() < MOST_BLOCKS, SheetFault::TooMany(at))?;
         let first = self.lblocks.len();
         self.blocks.push_reserved(Block { first, lblocks });
@@ -90,13 +101,19 @@ impl Draft {
     {
         match section {
             Section::Loop(number, header) => {
-                is_closed(&self.backs, number) && has_entry(&self.edges, &self.backs, number, header)
+                is_closed(&self.backs, number)
+                    && has_entry(&self.edges, &self.backs, number, header)
             }
             _ => true,
         }
     }
 
-    pub fn loop_word(&mut self, section: Section, payload: Payload, at: usize) -> Result<Section, SheetFault>
+    pub fn loop_word(
+        &mut self,
+        section: Section,
+        payload: Payload,
+        at: usize,
+    ) -> Result<Section, SheetFault>
         ensures { λ r. ⌜ Opened (loop-checks section (items-of (now (self .entry))) (payload .0) at) (items-of (now (self .entry))) (payload .0) r (items-of (now (self .exit))) ⌝ }
     {
         let header = payload.upper() as usize;
@@ -110,18 +127,38 @@ impl Draft {
         Ok(Section::Loop(number, header))
     }
 
-    pub fn back_word(&mut self, number: usize, header: usize, payload: Payload, at: usize) -> Result<(), SheetFault>
+    pub fn back_word(
+        &mut self,
+        number: usize,
+        header: usize,
+        payload: Payload,
+        at: usize,
+    ) -> Result<(), SheetFault>
         ensures { λ r. ⌜ Added (back-checks number header (items-of (now (self .entry))) (payload .0) at) (add-back (items-of (now (self .entry))) number (payload .0)) r (items-of (now (self .exit))) ⌝ }
     {
         let source = payload.0 as usize;
         demand(self.backs.len() < MOST_BACKS, SheetFault::TooMany(at))?;
-        demand(has_edge(&self.edges, source, header), SheetFault::WrongLoop(at))?;
-        demand(!has_back(&self.backs, number, source), SheetFault::WrongLoop(at))?;
-        self.backs.push_reserved(BackEdge { owner: number, source });
+        demand(
+            has_edge(&self.edges, source, header),
+            SheetFault::WrongLoop(at),
+        )?;
+        demand(
+            !has_back(&self.backs, number, source),
+            SheetFault::WrongLoop(at),
+        )?;
+        self.backs.push_reserved(BackEdge {
+            owner: number,
+            source,
+        });
         Ok(())
     }
 
-    pub fn fact_word(&mut self, section: Section, payload: Payload, at: usize) -> Result<(), SheetFault>
+    pub fn fact_word(
+        &mut self,
+        section: Section,
+        payload: Payload,
+        at: usize,
+    ) -> Result<(), SheetFault>
         ensures { λ r. ⌜ Added (fact-checks section (items-of (now (self .entry))) (payload .0) at) (add-fact (items-of (now (self .entry))) (payload .0)) r (items-of (now (self .exit))) ⌝ }
     {
         let i = payload.first_block() as usize;
@@ -138,7 +175,13 @@ impl Draft {
     }
 
     // END, at this place, with the words after it yet to be read.
-    pub fn end_word(&self, section: Section, payload: Payload, at: usize, reader: &Reader) -> Result<(), SheetFault>
+    pub fn end_word(
+        &self,
+        section: Section,
+        payload: Payload,
+        at: usize,
+        reader: &Reader,
+    ) -> Result<(), SheetFault>
         requires { ⌜ now reader .at ≡ at + 1 ⌝ }
         ensures { λ r. ⌜ Tried (end-checks section (items-of (now (self .entry))) (payload .0) at (drop (at + 1) (now (now (reader .entry) .words)))) r ⌝ }
     {
@@ -152,8 +195,14 @@ impl Draft {
     pub fn lblock_word(&self, word: Word, at: usize) -> Result<(), SheetFault>
         ensures { λ r. ⌜ Tried (demand-one (one-of (word .kind) (LBLOCK ∷ [])) not-due at ∷ checks (sheet-of (items-of (now (self .entry)))) none LBLOCK (word .payload .0) at []) r ⌝ }
     {
-        demand(matches!(word.kind, Kind::LBlock), SheetFault::Word(WordFault::NotDue(at)))?;
-        demand((word.payload.set() as usize) < self.sets, SheetFault::Word(WordFault::OutOfLimit(at)))?;
+        demand(
+            matches!(word.kind, Kind::LBlock),
+            SheetFault::Word(WordFault::NotDue(at)),
+        )?;
+        demand(
+            (word.payload.set() as usize) < self.sets,
+            SheetFault::Word(WordFault::OutOfLimit(at)),
+        )?;
         demand(self.lblocks.len() < MOST_LBLOCKS, SheetFault::TooMany(at))
     }
 
@@ -162,7 +211,10 @@ impl Draft {
         requires { ⌜ vec-len (now self .lblocks) < 512 ⌝ }
         ensures { λ r. ⌜ Added (demand-one (one-of (word .kind) (COST ∷ [])) not-due at ∷ []) (add-lblock (items-of (now (self .entry))) (lblock-of (length (items-of (now (self .entry)) .blocks) - 1) (set-field (first .0)) (tag-field (first .0)) (word .payload .0))) r (items-of (now (self .exit))) ⌝ }
     {
-        demand(matches!(word.kind, Kind::Cost), SheetFault::Word(WordFault::NotDue(at)))?;
+        demand(
+            matches!(word.kind, Kind::Cost),
+            SheetFault::Word(WordFault::NotDue(at)),
+        )?;
         self.lblocks.push_reserved(LBlock {
             block: self.blocks.len().saturating_sub(1),
             set: first.set() as usize,

@@ -11,7 +11,11 @@ use crate::search::Search;
 
 impl Draft {
     // Puts them into `out`, or answers the set with which there are too many.
-    pub fn find_conflicts(&self, search: &mut Search, out: &mut Vec<Conflict>) -> Result<(), SheetFault>
+    pub fn find_conflicts(
+        &self,
+        search: &mut Search,
+        out: &mut Vec<Conflict>,
+    ) -> Result<(), SheetFault>
         requires ready { ⌜ Readable (items-of (now self)) ⌝ }
         requires room { ⌜ 4096 ≤ vec-cap (now out) ⌝ }
         ensures found { λ r. ⌜ Found (sheet-of (items-of (now (self .entry)))) r (vec-items (now (out .exit))) ⌝ }

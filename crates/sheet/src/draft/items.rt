@@ -19,43 +19,80 @@ use words::word::Payload;
 use words::word::Word;
 
 impl Draft {
-    fn head(&mut self, section: Section, payload: Payload, at: usize) -> Result<Option<Section>, SheetFault>
+    fn head(
+        &mut self,
+        section: Section,
+        payload: Payload,
+        at: usize,
+    ) -> Result<Option<Section>, SheetFault>
         requires { ⌜ Ready section (items-of (now self)) ⌝ }
         ensures { λ r. ⌜ Turn section (items-of (now (self .entry))) HEAD (payload .0) at [] r (items-of (now (self .exit))) ⌝ }
     {
-        demand(section.due(Kind::Head), SheetFault::Word(WordFault::NotDue(at)))?;
+        demand(
+            section.due(Kind::Head),
+            SheetFault::Word(WordFault::NotDue(at)),
+        )?;
         self.head_word(payload, at)?;
         Ok(Some(Section::First))
     }
 
-    fn block(&mut self, section: Section, payload: Payload, at: usize) -> Result<Option<Section>, SheetFault>
+    fn block(
+        &mut self,
+        section: Section,
+        payload: Payload,
+        at: usize,
+    ) -> Result<Option<Section>, SheetFault>
         requires { ⌜ Ready section (items-of (now self)) ⌝ }
         ensures { λ r. ⌜ Turn section (items-of (now (self .entry))) BLOCK (payload .0) at [] r (items-of (now (self .exit))) ⌝ }
     {
-        demand(section.due(Kind::Block), SheetFault::Word(WordFault::NotDue(at)))?;
+        demand(
+            section.due(Kind::Block),
+            SheetFault::Word(WordFault::NotDue(at)),
+        )?;
         self.block_word(payload, at)?;
         Ok(Some(Section::LBlocks(payload.0 as usize)))
     }
 
-    fn edge(&mut self, section: Section, payload: Payload, at: usize) -> Result<Option<Section>, SheetFault>
+    fn edge(
+        &mut self,
+        section: Section,
+        payload: Payload,
+        at: usize,
+    ) -> Result<Option<Section>, SheetFault>
         requires { ⌜ Ready section (items-of (now self)) ⌝ }
         ensures { λ r. ⌜ Turn section (items-of (now (self .entry))) EDGE (payload .0) at [] r (items-of (now (self .exit))) ⌝ }
     {
-        demand(section.due(Kind::Edge), SheetFault::Word(WordFault::NotDue(at)))?;
+        demand(
+            section.due(Kind::Edge),
+            SheetFault::Word(WordFault::NotDue(at)),
+        )?;
         self.edge_word(payload, at)?;
         Ok(Some(Section::Edges))
     }
 
-    fn open_loop(&mut self, section: Section, payload: Payload, at: usize) -> Result<Option<Section>, SheetFault>
+    fn open_loop(
+        &mut self,
+        section: Section,
+        payload: Payload,
+        at: usize,
+    ) -> Result<Option<Section>, SheetFault>
         requires { ⌜ Ready section (items-of (now self)) ⌝ }
         ensures { λ r. ⌜ Turn section (items-of (now (self .entry))) LOOP (payload .0) at [] r (items-of (now (self .exit))) ⌝ }
     {
-        demand(section.due(Kind::Loop), SheetFault::Word(WordFault::NotDue(at)))?;
+        demand(
+            section.due(Kind::Loop),
+            SheetFault::Word(WordFault::NotDue(at)),
+        )?;
         let inside = self.loop_word(section, payload, at)?;
         Ok(Some(inside))
     }
 
-    fn back(&mut self, section: Section, payload: Payload, at: usize) -> Result<Option<Section>, SheetFault>
+    fn back(
+        &mut self,
+        section: Section,
+        payload: Payload,
+        at: usize,
+    ) -> Result<Option<Section>, SheetFault>
         requires { ⌜ Ready section (items-of (now self)) ⌝ }
         ensures { λ r. ⌜ Turn section (items-of (now (self .entry))) BACK (payload .0) at [] r (items-of (now (self .exit))) ⌝ }
     {
@@ -66,26 +103,49 @@ impl Draft {
         Ok(Some(Section::Loop(number, header)))
     }
 
-    fn fact(&mut self, section: Section, payload: Payload, at: usize) -> Result<Option<Section>, SheetFault>
+    fn fact(
+        &mut self,
+        section: Section,
+        payload: Payload,
+        at: usize,
+    ) -> Result<Option<Section>, SheetFault>
         requires { ⌜ Ready section (items-of (now self)) ⌝ }
         ensures { λ r. ⌜ Turn section (items-of (now (self .entry))) FACT (payload .0) at [] r (items-of (now (self .exit))) ⌝ }
     {
-        demand(section.due(Kind::Fact), SheetFault::Word(WordFault::NotDue(at)))?;
+        demand(
+            section.due(Kind::Fact),
+            SheetFault::Word(WordFault::NotDue(at)),
+        )?;
         self.fact_word(section, payload, at)?;
         Ok(Some(Section::Facts))
     }
 
-    fn end(&self, section: Section, payload: Payload, at: usize, reader: &Reader) -> Result<Option<Section>, SheetFault>
+    fn end(
+        &self,
+        section: Section,
+        payload: Payload,
+        at: usize,
+        reader: &Reader,
+    ) -> Result<Option<Section>, SheetFault>
         requires { ⌜ Ready section (items-of (now self)) ⌝ ∗ ⌜ now reader .at ≡ at + 1 ⌝ }
         ensures { λ r. ⌜ Turn section (items-of (now (self .entry))) END (payload .0) at (drop (at + 1) (now (now (reader .entry) .words))) r (items-of (now (self .entry))) ⌝ }
     {
-        demand(section.due(Kind::End), SheetFault::Word(WordFault::NotDue(at)))?;
+        demand(
+            section.due(Kind::End),
+            SheetFault::Word(WordFault::NotDue(at)),
+        )?;
         self.end_word(section, payload, at, reader)?;
         Ok(None)
     }
 
     // A word that is not of an l-block.
-    fn item(&mut self, section: Section, word: Word, at: usize, reader: &Reader) -> Result<Option<Section>, SheetFault>
+    fn item(
+        &mut self,
+        section: Section,
+        word: Word,
+        at: usize,
+        reader: &Reader,
+    ) -> Result<Option<Section>, SheetFault>
         requires ready { ⌜ Ready section (items-of (now self)) ⌝ }
         requires outside { ⌜ lacking-in section ≡ 0 ⌝ }
         requires after { ⌜ now reader .at ≡ at + 1 ⌝ }
@@ -145,7 +205,11 @@ impl Draft {
     }
 
     // The next item, or the end of the sheet.
-    pub fn step(&mut self, section: Section, reader: &mut Reader) -> Result<Option<Section>, SheetFault>
+    pub fn step(
+        &mut self,
+        section: Section,
+        reader: &mut Reader,
+    ) -> Result<Option<Section>, SheetFault>
         requires { ⌜ Ready section (items-of (now self)) ⌝ }
         ensures same { λ _. ⌜ now (reader .exit) .words ≡ now (reader .entry) .words ⌝ }
         ensures stepped { λ r. ⌜ Stepped (now (now (reader .entry) .words)) section (items-of (now (self .entry))) (now (reader .entry) .at) r (items-of (now (self .exit))) (now (reader .exit) .at) ⌝ }

@@ -44,7 +44,8 @@ impl SheetRoom {
         ensures laws { λ _. ⌜ ReaderLaws ⌝ }
     {
         self.draft.read(words)?;
-        self.draft.find_conflicts(&mut self.search, &mut self.conflicts)?;
+        self.draft
+            .find_conflicts(&mut self.search, &mut self.conflicts)?;
         self.sheet.replace(&mut self.draft, &mut self.conflicts);
         Ok(())
     }

@@ -20,7 +20,10 @@ fn blank_draft(heap: Global) -> Result<Draft, AllocError>
 {
     let mut draft = Draft::reserve(heap)?;
     draft.sets = 1;
-    draft.blocks.push_reserved(Block { first: 0, lblocks: 1 });
+    draft.blocks.push_reserved(Block {
+        first: 0,
+        lblocks: 1,
+    });
     draft.lblocks.push_reserved(LBlock {
         block: 0,
         set: 0,

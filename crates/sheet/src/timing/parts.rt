@@ -1,5 +1,6 @@
 // What a sheet holds.
 ghost use mathlib.Core.Path.{_≡_};
+ghost use Prim.Native.Nat.{_+_, _*_, _≤_};
 ghost use lib.ListN.{length};
 ghost use Rattle.sheet.specs.Conflict.{Conflicts};
 ghost use Rattle.sheet.specs.ConflictList.{conflicts as conflict-list};
@@ -13,6 +14,23 @@ use crate::parts::Fact;
 use crate::parts::LBlock;
 use crate::parts::Loop;
 use crate::timing::Sheet;
+
+// An in and an out row for each block, a row for each loop and fact, an arrival, a departure and a miss row for each l-block, and one for
+// each used set.
+fn count_rows(blocks: usize, loops: usize, facts: usize, lblocks: usize, used: usize) -> usize
+    requires { ⌜ (blocks ≤ 128) × (loops ≤ 32) × (facts ≤ 32) × (lblocks ≤ 512) × (used ≤ 64) ⌝ }
+    ensures { λ r. ⌜ r ≡ 2 * blocks + loops + facts + 3 * lblocks + used ⌝ }
+{
+    2 * blocks + loops + facts + 3 * lblocks + used
+}
+
+// A column for each block, edge, l-block and conflict edge.
+fn count_columns(blocks: usize, edges: usize, lblocks: usize, conflicts: usize) -> usize
+    requires { ⌜ (blocks ≤ 128) × (edges ≤ 512) × (lblocks ≤ 512) × (conflicts ≤ 4096) ⌝ }
+    ensures { λ r. ⌜ r ≡ blocks + edges + lblocks + conflicts ⌝ }
+{
+    blocks + edges + lblocks + conflicts
+}
 
 impl Sheet {
     // How many cache sets there are.
@@ -70,13 +88,24 @@ impl Sheet {
     pub fn rows(&self) -> usize
         ensures { λ r. ⌜ r ≡ length (row-list (view (now (self .entry)))) ⌝ }
     {
-        2 * self.draft.blocks.len() + self.draft.loops.len() + self.draft.facts.len() + 3 * self.draft.lblocks.len() + self.used
+        count_rows(
+            self.draft.blocks.len(),
+            self.draft.loops.len(),
+            self.draft.facts.len(),
+            self.draft.lblocks.len(),
+            self.used,
+        )
     }
 
     // How many columns it has.
     pub fn columns(&self) -> usize
         ensures { λ r. ⌜ r ≡ length (column-list (view (now (self .entry))) (conflict-list (view (now (self .entry))))) ⌝ }
     {
-        self.draft.blocks.len() + self.draft.edges.len() + self.draft.lblocks.len() + self.conflicts.len()
+        count_columns(
+            self.draft.blocks.len(),
+            self.draft.edges.len(),
+            self.draft.lblocks.len(),
+            self.conflicts.len(),
+        )
     }
 }

@@ -11,7 +11,7 @@ pub returns-in-Break-end-word : need.returns-in-Break-end-word
 returns-in-Break-end-word c =
     let p = err-from-errBy (c .from-residual-in-Break-end-word .result) (c .from-residual-in-Break-end-word .ensures .1) in
     rw (p .1, p .2)
-    (broke (c .args .section) (items-of (c .args .self .now)) END (c .args .payload .0) (c .args .at) (drop (c .args .at + 1) (c .args .reader .now .words .now)) _ (c .in-Break-end-word .field-0 .0) 
+    (broke (c .args .section) (items-of (c .args .self .now)) END (c .args .payload .0) (c .args .at) (drop (c .args .at + 1) (c .args .reader .now .words .now)) _ (c .in-Break-end-word .field-0 .0)
     (end-trial (c .args .section) (items-of (c .args .self .now)) (c .pre .0 .is-open) (c .args .payload .0) (c .args .at) (drop (c .args .at + 1) (c .args .reader .now .words .now)))
     (sym (c .due .ensures) ∙ c .in-Continue-demand .ensures tt) (c .in-Break-end-word .ensures tt))
 

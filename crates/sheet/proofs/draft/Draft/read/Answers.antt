@@ -20,7 +20,7 @@ returns-in-Break-next c =
 pub loop-next-again : need.loop-next-again
 loop-next-again c =
     let b = loop-again (c .args .words .now) (c .loop-next .reader .words .now) (c .loop-next .section) (items-of (c .loop-next .self)) (items-of (c .step .last .self)) (c .loop-next .reader .at) (c .step .last .reader .at)
-        (c .loop-next .inv .0) (c .loop-next .inv .2) (c .in-Continue-next .field-0) (c .in-Some .next) (c .in-Some .is) (c .in-Continue-next .ensures tt .stepped) in
+    (c .loop-next .inv .0) (c .loop-next .inv .2) (c .in-Continue-next .field-0) (c .in-Some .next) (c .in-Some .is) (c .in-Continue-next .ensures tt .stepped) in
     (b .0, b .1, ap now (c .in-Continue-next .ensures tt .same) ∙ c .loop-next .inv .2)
 
 pub returns : need.returns
