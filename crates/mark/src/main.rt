@@ -1,14 +1,11 @@
 // Reads a timing sheet from standard input and prints its line, or that of its refusal.
 use line::fault::LineFault;
-use marker::input::MOST_WORDS;
+use marker::report::MOST_BYTES;
 use marker::report::Marker;
 use std::error::AnyError;
 use std::io;
 use std::io::Read;
 use std::io::Write;
-
-// The bytes of the longest list.
-const MOST_BYTES: usize = 4 * MOST_WORDS;
 
 // Fills the buffer from standard input, and answers how many bytes came before the input's end.
 fn fill(rt: &LibcRuntime, buffer: &mut [u8]) -> io::Result<usize> {

@@ -8,7 +8,7 @@ ghost use Rattle.marker.specs.Input.{word-at, first-list};
 use words::word::Kind;
 
 // The most words that a list may have.
-pub const MOST_WORDS: usize = 4096;
+pub(crate) const MOST_WORDS: usize = 4096;
 
 // The word of four bytes.
 fn word_of(a: u8, b: u8, c: u8, d: u8) -> u32
@@ -25,7 +25,7 @@ fn is_end(word: u32) -> bool
 }
 
 // The input's first list, in memory that is reserved: up to its END, the input's end or 4,096 words.
-pub fn take_list(input: &[u8], words: &mut Vec<u32>)
+pub(crate) fn take_list(input: &[u8], words: &mut Vec<u32>)
     requires { ⌜ 4096 ≤ vec-cap (now words) ⌝ }
     ensures items { λ _. ⌜ vec-items (now (words .exit)) ≡ first-list (now (input .entry)) ⌝ }
     ensures capacity { λ _. ⌜ 4096 ≤ vec-cap (now (words .exit)) ⌝ }

@@ -1,3 +1,3 @@
 // What the program does with its input, as functions on values.
-pub mod input;
+mod input;
 pub mod report;

@@ -20,6 +20,9 @@ use sheet::timing::Sheet;
 use std::alloc::AllocError;
 use std::alloc::Global;
 
+// The bytes of the longest list.
+pub const MOST_BYTES: usize = 4 * MOST_WORDS;
+
 // All the memory that marking takes.
 #[derive(Drop)]
 pub struct Marker {

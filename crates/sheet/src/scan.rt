@@ -11,7 +11,7 @@ use crate::parts::Edge;
 use crate::parts::Loop;
 
 // Whether there is an edge from one block to another.
-pub fn has_edge(edges: &[Edge], from: usize, to: usize) -> bool
+pub(crate) fn has_edge(edges: &[Edge], from: usize, to: usize) -> bool
     ensures { λ r. ⌜ r ≡ any (same-edge (edge from to)) (now (edges .entry)) ⌝ }
 {
     for e in edges {
@@ -23,7 +23,7 @@ pub fn has_edge(edges: &[Edge], from: usize, to: usize) -> bool
 }
 
 // Whether a block is the header of a loop.
-pub fn has_header(loops: &[Loop], header: usize) -> bool
+pub(crate) fn has_header(loops: &[Loop], header: usize) -> bool
     ensures { λ r. ⌜ r ≡ any (λ l. eqb header (l .header)) (now (loops .entry)) ⌝ }
 {
     for l in loops {
@@ -35,7 +35,7 @@ pub fn has_header(loops: &[Loop], header: usize) -> bool
 }
 
 // Whether a loop has a back edge.
-pub fn is_closed(backs: &[BackEdge], owner: usize) -> bool
+pub(crate) fn is_closed(backs: &[BackEdge], owner: usize) -> bool
     ensures { λ r. ⌜ r ≡ any (λ b. eqb (b .owner) owner) (now (backs .entry)) ⌝ }
 {
     for b in backs {
@@ -47,7 +47,7 @@ pub fn is_closed(backs: &[BackEdge], owner: usize) -> bool
 }
 
 // Whether a loop has a back edge from a block.
-pub fn has_back(backs: &[BackEdge], owner: usize, source: usize) -> bool
+pub(crate) fn has_back(backs: &[BackEdge], owner: usize, source: usize) -> bool
     ensures { λ r. ⌜ r ≡ any (eqb source) (backs-of (now (backs .entry)) owner) ⌝ }
 {
     for b in backs {
@@ -59,7 +59,7 @@ pub fn has_back(backs: &[BackEdge], owner: usize, source: usize) -> bool
 }
 
 // Whether an edge enters a loop: it leads to the header, and is no back edge of the loop.
-pub fn has_entry(edges: &[Edge], backs: &[BackEdge], owner: usize, header: usize) -> bool
+pub(crate) fn has_entry(edges: &[Edge], backs: &[BackEdge], owner: usize, header: usize) -> bool
     ensures { λ r. ⌜ r ≡ any (λ e. eqb (e .to) header && not (any (eqb (e .from)) (backs-of (now (backs .entry)) owner))) (now (edges .entry)) ⌝ }
 {
     for e in edges {

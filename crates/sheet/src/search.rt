@@ -37,7 +37,7 @@ pub struct Search {
 }
 
 impl Search {
-    pub fn reserve(heap: Global) -> Result<Search, AllocError> {
+    pub(crate) fn reserve(heap: Global) -> Result<Search, AllocError> {
         Ok(Search {
             latest: Vec::with_capacity(heap, MOST_BLOCKS)?,
             before: Vec::with_capacity(heap, MOST_EDGES)?,
@@ -46,7 +46,7 @@ impl Search {
     }
 
     // The conflict edges of the blocks, l-blocks and edges go into `out`. Where they pass 4,096, the set with which they do is answered.
-    pub fn find<'a>(
+    pub(crate) fn find<'a>(
         &mut self,
         sets: usize,
         blocks: &'a [Block],

@@ -19,7 +19,7 @@ pub enum Section {
 
 impl Section {
     // Whether a word of this kind is due here.
-    pub fn due(self, kind: Kind) -> bool
+    pub(crate) fn due(self, kind: Kind) -> bool
         ensures { λ r. ⌜ r ≡ one-of kind (due-in self) ⌝ }
     {
         match self {
@@ -37,7 +37,7 @@ impl Section {
     }
 
     // The section after an l-block of a block that lacked so many.
-    pub fn past_lblock(lacking: usize) -> Section
+    pub(crate) fn past_lblock(lacking: usize) -> Section
         ensures { λ r. ⌜ r ≡ past-lblock lacking ⌝ }
     {
         if lacking > 1 {

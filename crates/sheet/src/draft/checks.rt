@@ -46,14 +46,14 @@ const MOST_BACKS: usize = 64;
 const MOST_FACTS: usize = 32;
 
 // Refuses with this fault unless the test holds.
-pub fn demand(holds: bool, fault: SheetFault) -> Result<(), SheetFault>
+pub(crate) fn demand(holds: bool, fault: SheetFault) -> Result<(), SheetFault>
     ensures { λ r. ⌜ Demanded holds fault r ⌝ }
 {
     if holds { Ok(()) } else { Err(fault) }
 }
 
 impl Draft {
-    pub fn head_word(&mut self, payload: Payload, at: usize) -> Result<(), SheetFault>
+    pub(crate) fn head_word(&mut self, payload: Payload, at: usize) -> Result<(), SheetFault>
         ensures { λ r. ⌜ Added (checks (sheet-of (items-of (now (self .entry)))) none HEAD (payload .0) at []) (add-head (items-of (now (self .entry))) (payload .0)) r (items-of (now (self .exit))) ⌝ }
     {
         let sets = payload.0 as usize;
@@ -65,7 +65,7 @@ impl Draft {
         Ok(())
     }
 
-    pub fn block_word(&mut self, payload: Payload, at: usize) -> Result<(), SheetFault>
+    pub(crate) fn block_word(&mut self, payload: Payload, at: usize) -> Result<(), SheetFault>
         ensures { λ r. ⌜ Added (checks (sheet-of (items-of (now (self .entry)))) none BLOCK (payload .0) at []) (add-block (items-of (now (self .entry))) (payload .0)) r (items-of (now (self .exit))) ⌝ }
     {
         let lblocks = payload.0 as usize;
@@ -79,7 +79,7 @@ impl Draft {
         Ok(())
     }
 
-    pub fn edge_word(&mut self, payload: Payload, at: usize) -> Result<(), SheetFault>
+    pub(crate) fn edge_word(&mut self, payload: Payload, at: usize) -> Result<(), SheetFault>
         ensures { λ r. ⌜ Added (checks (sheet-of (items-of (now (self .entry)))) none EDGE (payload .0) at []) (add-edge (items-of (now (self .entry))) (payload .0)) r (items-of (now (self .exit))) ⌝ }
     {
         let from = payload.upper() as usize;
@@ -108,7 +108,7 @@ impl Draft {
         }
     }
 
-    pub fn loop_word(
+    pub(crate) fn loop_word(
         &mut self,
         section: Section,
         payload: Payload,
@@ -127,7 +127,7 @@ impl Draft {
         Ok(Section::Loop(number, header))
     }
 
-    pub fn back_word(
+    pub(crate) fn back_word(
         &mut self,
         number: usize,
         header: usize,
@@ -153,7 +153,7 @@ impl Draft {
         Ok(())
     }
 
-    pub fn fact_word(
+    pub(crate) fn fact_word(
         &mut self,
         section: Section,
         payload: Payload,
@@ -175,7 +175,7 @@ impl Draft {
     }
 
     // END, at this place, with the words after it yet to be read.
-    pub fn end_word(
+    pub(crate) fn end_word(
         &self,
         section: Section,
         payload: Payload,
@@ -192,7 +192,7 @@ impl Draft {
     }
 
     // The first word of an l-block.
-    pub fn lblock_word(&self, word: Word, at: usize) -> Result<(), SheetFault>
+    pub(crate) fn lblock_word(&self, word: Word, at: usize) -> Result<(), SheetFault>
         ensures { λ r. ⌜ Tried (demand-one (one-of (word .kind) (LBLOCK ∷ [])) not-due at ∷ checks (sheet-of (items-of (now (self .entry)))) none LBLOCK (word .payload .0) at []) r ⌝ }
     {
         demand(
@@ -207,7 +207,7 @@ impl Draft {
     }
 
     // Its second word.
-    pub fn cost_word(&mut self, first: Payload, word: Word, at: usize) -> Result<(), SheetFault>
+    pub(crate) fn cost_word(&mut self, first: Payload, word: Word, at: usize) -> Result<(), SheetFault>
         requires { ⌜ vec-len (now self .lblocks) < 512 ⌝ }
         ensures { λ r. ⌜ Added (demand-one (one-of (word .kind) (COST ∷ [])) not-due at ∷ []) (add-lblock (items-of (now (self .entry))) (lblock-of (length (items-of (now (self .entry)) .blocks) - 1) (set-field (first .0)) (tag-field (first .0)) (word .payload .0))) r (items-of (now (self .exit))) ⌝ }
     {

@@ -11,7 +11,7 @@ use crate::search::Search;
 
 impl Draft {
     // Puts them into `out`, or answers the set with which there are too many.
-    pub fn find_conflicts(
+    pub(crate) fn find_conflicts(
         &self,
         search: &mut Search,
         out: &mut Vec<Conflict>,

@@ -205,7 +205,7 @@ impl Draft {
     }
 
     // The next item, or the end of the sheet.
-    pub fn step(
+    pub(crate) fn step(
         &mut self,
         section: Section,
         reader: &mut Reader,

@@ -13,7 +13,7 @@ use words::reader::Reader;
 
 impl Draft {
     // Memory for all the items that a sheet may have.
-    pub fn reserve(heap: Global) -> Result<Draft, AllocError>
+    pub(crate) fn reserve(heap: Global) -> Result<Draft, AllocError>
         ensures { λ r. ⌜ made r (λ d. items-of d ≡ no-items) ⌝ }
     {
         Ok(Draft {
@@ -41,7 +41,7 @@ impl Draft {
     }
 
     // The items of the sheet whose words these are, or the first fault.
-    pub fn read(&mut self, words: &[u32]) -> Result<(), SheetFault>
+    pub(crate) fn read(&mut self, words: &[u32]) -> Result<(), SheetFault>
         ensures { λ r. ⌜ ReadItems (now (words .entry)) r (items-of (now (self .exit))) ⌝ }
     {
         self.clear();

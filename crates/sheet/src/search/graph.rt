@@ -21,7 +21,7 @@ pub struct Graph<'a> {
 }
 
 // `v` holds `x`, n times.
-pub fn refill<T: Copy>(v: &mut Vec<T>, n: usize, x: T)
+pub(crate) fn refill<T: Copy>(v: &mut Vec<T>, n: usize, x: T)
     requires { ⌜ n ≤ vec-cap (now v) ⌝ }
     ensures items { λ _. ⌜ vec-items (now (v .exit)) ≡ replicate n x ⌝ }
     ensures capacity { λ _. ⌜ vec-cap (now (v .exit)) ≡ vec-cap (now (v .entry)) ⌝ }
@@ -33,7 +33,7 @@ pub fn refill<T: Copy>(v: &mut Vec<T>, n: usize, x: T)
 }
 
 // Links the edges.
-pub fn link(blocks: usize, edges: &[Edge], latest: &mut Vec<usize>, before: &mut Vec<usize>)
+pub(crate) fn link(blocks: usize, edges: &[Edge], latest: &mut Vec<usize>, before: &mut Vec<usize>)
     requires from { ⌜ All (λ e. e .from < blocks) (now edges) ⌝ }
     requires blocks { ⌜ blocks ≤ vec-cap (now latest) ⌝ }
     requires edges { ⌜ length (now edges) ≤ vec-cap (now before) ⌝ }

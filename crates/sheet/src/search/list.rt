@@ -155,7 +155,7 @@ impl Reach {
     }
 
     // Lists the conflict edges of all sets, or says with which there are too many.
-    pub fn list_all(&mut self, g: &Graph, out: &mut Vec<Conflict>) -> Result<(), usize>
+    pub(crate) fn list_all(&mut self, g: &Graph, out: &mut Vec<Conflict>) -> Result<(), usize>
         requires graph { ⌜ Searchable (now g) ⌝ }
         requires reserved { ⌜ Reserved (now self) ⌝ }
         requires room { ⌜ 4096 ≤ vec-cap (now out) ⌝ }
@@ -174,7 +174,7 @@ impl Reach {
 }
 
 // Whether an l-block has the set.
-pub fn is_used(lblocks: &[LBlock], set: usize) -> bool
+pub(crate) fn is_used(lblocks: &[LBlock], set: usize) -> bool
     ensures { λ r. ⌜ r ≡ any (λ b. eqb (b .set) set) (now (lblocks .entry)) ⌝ }
 {
     for b in lblocks {

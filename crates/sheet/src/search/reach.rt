@@ -28,7 +28,7 @@ pub struct Reach {
 }
 
 impl Reach {
-    pub fn reserve(heap: Global) -> Result<Reach, AllocError>
+    pub(crate) fn reserve(heap: Global) -> Result<Reach, AllocError>
         ensures { λ r. ⌜ made r Reserved ⌝ }
     {
         Ok(Reach {
@@ -132,7 +132,7 @@ impl Reach {
     }
 
     // Sees exactly the nodes that a path leads to from `from` with no l-block of the set strictly inside.
-    pub fn run(&mut self, g: &Graph, set: usize, from: Node)
+    pub(crate) fn run(&mut self, g: &Graph, set: usize, from: Node)
         requires graph { ⌜ Searchable (now g) ⌝ }
         requires reserved { ⌜ Reserved (now self) ⌝ }
         requires source { ⌜ Source (sheet-of (now g)) from ⌝ }

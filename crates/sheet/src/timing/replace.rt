@@ -17,7 +17,7 @@ use crate::search::list::is_used;
 use crate::timing::Sheet;
 
 // How many of the sets an l-block has.
-pub fn count_used(sets: usize, lblocks: &[LBlock]) -> usize
+pub(crate) fn count_used(sets: usize, lblocks: &[LBlock]) -> usize
     ensures { λ r. ⌜ r ≡ used-among (now (lblocks .entry)) sets ⌝ }
 {
     let mut used = 0;
@@ -31,7 +31,7 @@ pub fn count_used(sets: usize, lblocks: &[LBlock]) -> usize
 
 impl Sheet {
     // The sheet becomes the one that was read. Its old memory is handed back for the next.
-    pub fn replace(&mut self, draft: &mut Draft, conflicts: &mut Vec<Conflict>)
+    pub(crate) fn replace(&mut self, draft: &mut Draft, conflicts: &mut Vec<Conflict>)
         requires fits { ⌜ Kept (items-of (now draft)) ⌝ }
         requires listed { ⌜ vec-items (now conflicts) ≡ conflict-list (sheet-of (items-of (now draft))) ⌝ }
         requires room { ⌜ 4096 ≤ vec-cap (now conflicts) ⌝ }
