@@ -207,7 +207,12 @@ impl Draft {
     }
 
     // Its second word.
-    pub(crate) fn cost_word(&mut self, first: Payload, word: Word, at: usize) -> Result<(), SheetFault>
+    pub(crate) fn cost_word(
+        &mut self,
+        first: Payload,
+        word: Word,
+        at: usize,
+    ) -> Result<(), SheetFault>
         requires { ⌜ vec-len (now self .lblocks) < 512 ⌝ }
         ensures { λ r. ⌜ Added (demand-one (one-of (word .kind) (COST ∷ [])) not-due at ∷ []) (add-lblock (items-of (now (self .entry))) (lblock-of (length (items-of (now (self .entry)) .blocks) - 1) (set-field (first .0)) (tag-field (first .0)) (word .payload .0))) r (items-of (now (self .exit))) ⌝ }
     {
