@@ -16,8 +16,8 @@ use Rattle.sheet.specs.Sheet.{Sheet}
 use Rattle.sheet.specs.Conflict.{Node, START, at, END, in-set, used, Conflict}
 use Rattle.sheet.specs.ConflictList.{conflicting, set-lblocks, members, conflicts-from, conflicts-of, conflicts}
 use Rattle.sheet.specs.ReadSheet.{passing}
-use Rattle.sheet.specs.Search.{node, Reached, Added, edge-to, edge-at, edges-from, edges-of}
-use Rattle.sheet.specs.declared.search.reach.Reach.{Reach}
+use Rattle.sheet.specs.Traversal.{node, Reached, Added, edge-to, edge-at, edges-from, edges-of}
+use Rattle.sheet.specs.declared.traversal.reach.Reach.{Reach}
 
 pub added-none : (xs added : List Conflict) → added ≡ [] → length xs ≤ 4096 → Added xs added true xs
 added-none xs added e l = (sym (append-nil xs) ∙ ap (λ ys. xs ++ ys) (sym e), l)

@@ -13,11 +13,11 @@ use Rattle.std.proofs.shelf.Sums.{sumBy-set, countBy-le-length}
 use Rattle.std.proofs.shelf.Tests.{cases-eq, both-ways}
 use Rattle.sheet.specs.Sheet.{Sheet}
 use Rattle.sheet.specs.Conflict.{Node, at, Arrow, Leads, one, more, in-set}
-use Rattle.sheet.specs.Search.{node, Front, Grown, On}
+use Rattle.sheet.specs.Traversal.{node, Front, Grown, On}
 use Rattle.sheet.specs.ConflictList.{conflicting}
 use Rattle.sheet.proofs.Reach.{leaves, reaches, leads-sound, conflicting-complete}
 use Rattle.sheet.proofs.Nodes.{node-at}
-use Rattle.sheet.specs.declared.search.reach.Reach.{Reach}
+use Rattle.sheet.specs.declared.traversal.reach.Reach.{Reach}
 
 -- flags
 flag-set : (seen : List Bool) (k : ℕ) → k < length seen → getD (set seen k true) k false ≡ true

@@ -8,7 +8,7 @@ use lib.ListN.{getD, set, replicate, length-set}
 use Rattle.std.proofs.shelf.Lists.{getD-set-same, getD-set-other, getD-append-left, getD-push, length-push, length-replicate, getD-replicate}
 use Rattle.std.proofs.shelf.Tests.{cases-eq}
 use Rattle.sheet.specs.Sheet.{Edge}
-use Rattle.sheet.specs.Search.{no-edge, Latest, Linked}
+use Rattle.sheet.specs.Traversal.{no-edge, Latest, Linked}
 
 module _ (es : List Edge) where
   latest-none : {b : ℕ} → Latest es b 0 0

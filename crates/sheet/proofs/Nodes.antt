@@ -14,7 +14,7 @@ use Rattle.sheet.specs.Sheet.{Sheet, Edge, lblock, WellFormed, last-block}
 use Rattle.sheet.specs.Walk.{edge}
 use Rattle.sheet.specs.Conflict.{Node, START, at, END, Arrow}
 use Rattle.sheet.specs.Graph.{Table}
-use Rattle.sheet.specs.Search.{node, no-edge}
+use Rattle.sheet.specs.Traversal.{node, no-edge}
 use Rattle.sheet.proofs.Table.{TableArrow, from-start, along, across, to-end, table-arrow, arrow-table, ends-of}
 
 module _ (S : Sheet) where

@@ -1,4 +1,4 @@
--- The blocks, l-blocks and edges of a sheet as lists of their own, and the answer of a search for its conflict edges. Assumes nothing.
+-- The blocks, l-blocks and edges of a sheet as lists of their own, and what is answered of its conflict edges. Assumes nothing.
 use mathlib.Core.Path.{_≡_}
 use mathlib.Core.List.{List, []}
 use mathlib.Core.Option.{none, some}
@@ -19,7 +19,7 @@ graph-of sets blocks ls es = record { sets = sets; blocks = blocks; lblocks = ls
 abbrev pub graph : Sheet → Sheet
 graph S = graph-of (S .sets) (S .blocks) (S .lblocks) (S .edges)
 
--- a search's answer, and the conflict edges that it found: all, or the set with which there are too many
+-- the answer, and the conflict edges that were found: all, or the set with which there are too many
 abbrev pub Listed : Sheet → Result Unit ℕ → List Conflict → Type 0
 Listed S (Ok _) cs = (passing S (used-sets S) 0 ≡ none) × (cs ≡ conflicts S)
 Listed S (Err s) cs = passing S (used-sets S) 0 ≡ some s

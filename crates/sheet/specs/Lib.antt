@@ -16,4 +16,4 @@ pub mod Kept
 pub mod View
 pub mod Reads
 pub mod Graph
-pub mod Search
+pub mod Traversal

@@ -4,6 +4,6 @@ pub mod fault;
 pub mod parts;
 pub mod room;
 mod scan;
-mod search;
 mod section;
 pub mod timing;
+mod traversal;

@@ -3,8 +3,8 @@ ghost use Prim.Native.Nat.{_≤_};
 ghost use Rattle.std.specs.Of.Vec.{vec-cap};
 use crate::draft::Draft;
 use crate::parts::Conflict;
-use crate::search::Search;
 use crate::timing::Sheet;
+use crate::traversal::Traversal;
 
 // The sheet that is held, and the memory in which the next one is read.
 #[derive(Drop)]
@@ -12,7 +12,7 @@ pub struct SheetRoom {
     sheet: Sheet,
     draft: Draft,
     conflicts: Vec<Conflict>,
-    search: Search,
+    traversal: Traversal,
     ghost space: { 4096 ≤ vec-cap conflicts },
 }
 

@@ -7,13 +7,13 @@ ghost use Rattle.sheet.specs.Tried.{items-of};
 use crate::draft::Draft;
 use crate::fault::SheetFault;
 use crate::parts::Conflict;
-use crate::search::Search;
+use crate::traversal::Traversal;
 
 impl Draft {
     // Puts them into `out`, or answers the set with which there are too many.
     pub(crate) fn find_conflicts(
         &self,
-        search: &mut Search,
+        traversal: &mut Traversal,
         out: &mut Vec<Conflict>,
     ) -> Result<(), SheetFault>
         requires ready { ⌜ Readable (items-of (now self)) ⌝ }
@@ -21,7 +21,7 @@ impl Draft {
         ensures found { λ r. ⌜ Found (sheet-of (items-of (now (self .entry)))) r (vec-items (now (out .exit))) ⌝ }
         ensures room { λ _. ⌜ 4096 ≤ vec-cap (now (out .exit)) ⌝ }
     {
-        match search.find(self.sets, &self.blocks, &self.lblocks, &self.edges, out) {
+        match traversal.find(self.sets, &self.blocks, &self.lblocks, &self.edges, out) {
             Ok(()) => Ok(()),
             Err(set) => Err(SheetFault::TooManyConflicts(set)),
         }

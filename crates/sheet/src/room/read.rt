@@ -6,8 +6,8 @@ ghost use Rattle.sheet.specs.View.{view, blank as blank-sheet};
 use crate::draft::Draft;
 use crate::fault::SheetFault;
 use crate::room::SheetRoom;
-use crate::search::Search;
 use crate::timing::Sheet;
+use crate::traversal::Traversal;
 use std::alloc::AllocError;
 use std::alloc::Global;
 
@@ -20,7 +20,7 @@ impl SheetRoom {
             sheet: Sheet::blank(heap)?,
             draft: Draft::reserve(heap)?,
             conflicts: Vec::with_capacity(heap, 4096)?,
-            search: Search::reserve(heap)?,
+            traversal: Traversal::reserve(heap)?,
         })
     }
 
@@ -45,7 +45,7 @@ impl SheetRoom {
     {
         self.draft.read(words)?;
         self.draft
-            .find_conflicts(&mut self.search, &mut self.conflicts)?;
+            .find_conflicts(&mut self.traversal, &mut self.conflicts)?;
         self.sheet.replace(&mut self.draft, &mut self.conflicts);
         Ok(())
     }

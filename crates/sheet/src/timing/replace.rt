@@ -13,8 +13,8 @@ ghost use Rattle.sheet.specs.View.{items as items-in};
 use crate::draft::Draft;
 use crate::parts::Conflict;
 use crate::parts::LBlock;
-use crate::search::list::is_used;
 use crate::timing::Sheet;
+use crate::traversal::list::is_used;
 
 // How many of the sets an l-block has.
 pub(crate) fn count_used(sets: usize, lblocks: &[LBlock]) -> usize
