@@ -67,3 +67,39 @@ impl Marker {
         }
     }
 }
+
+#[cfg(test)]
+mod tests {
+    use super::*;
+    use std::test::*;
+
+    // Whether this is what is printed for the input.
+    fn prints(marker: &mut Marker, input: &[u8], text: &[u8]) -> bool {
+        let mut out = [0u8; 128];
+        match marker.sheet(input, &mut out, 0) {
+            Ok(end) => end <= 128 && &out[0..end] == text,
+            Err(_) => false,
+        }
+    }
+
+    #[test]
+    fn input_that_is_no_sheet(rt: LibcRuntime) -> Result<(), Fail> {
+        let mut marker = Marker::reserve(rt.alloc())?;
+        let ended = b"sheet refused 2 at 0 in words\n";
+        check(prints(&mut marker, b"", ended))?;
+        check(prints(&mut marker, b"\x10", ended))?;
+        check(prints(&mut marker, b"\x10\x00\x00", ended))?;
+        check(prints(
+            &mut marker,
+            b"\xff\xff\xff\xff",
+            b"sheet refused 1 at 0 in words\n",
+        ))?;
+        check(prints(
+            &mut marker,
+            b"\x10\x00\x00\x02\x20",
+            b"sheet refused 2 at 1 in words\n",
+        ))?;
+        let long = vec![in rt.alloc(); 16u8; 20000]?;
+        check(prints(&mut marker, &long, b"sheet refused 4 at 0 in words\n"))
+    }
+}
