@@ -1,4 +1,6 @@
 // Lines of text, written into a lent slice of bytes from a given place on.
+#![tactic(auto)]
+
 mod decimal;
 pub mod fault;
 mod field;

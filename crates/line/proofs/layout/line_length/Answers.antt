@@ -2,8 +2,8 @@ use Rattle.std.proofs.Common.{length, ap, arith}
 use Rattle.line.proofs.Fields.{length-line, length_more, after_all}
 use Rattle.line.proofs.layout.line_length.Goals as goal
 
-pub overflow-add-count-in-loop-field : goal.overflow-add-count-in-loop-field
-overflow-add-count-in-loop-field c =
+pub overflow_add-count-in-loop-field : goal.overflow_add-count-in-loop-field
+overflow_add-count-in-loop-field c =
     omega arith
 
 pub loop-field-preserved : goal.loop-field-preserved
@@ -11,8 +11,8 @@ loop-field-preserved c =
     let m = length_more c.args.fields.now c.loop-field.field-index (omega arith) in
     (omega arith, omega arith)
 
-pub overflow-add-result : goal.overflow-add-result
-overflow-add-result c =
+pub overflow_add-result : goal.overflow_add-result
+overflow_add-result c =
     omega arith
 
 pub returns : goal.returns

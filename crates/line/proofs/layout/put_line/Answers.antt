@@ -5,8 +5,8 @@ use Rattle.line.proofs.Places.{over_at_more, ended}
 use Rattle.line.proofs.Fields.{after, no_field, length-line, length_more, after_more, after_le, after_all}
 use Rattle.line.proofs.layout.put_line.Goals as goal
 
-pub put-next-at-requires : goal.put-next-at-requires
-put-next-at-requires c =
+pub put_next-at-requires : goal.put_next-at-requires
+put_next-at-requires c =
     let t = ap length c.text.ensures.text in
     let i = c.loop-field.field-index in
     let fs = c.args.fields.now in
@@ -19,14 +19,14 @@ pub loop-field-preserved : goal.loop-field-preserved
 loop-field-preserved c =
     let i = c.loop-field.field-index in
     let fs = c.args.fields.now in
-    let xs = c.put-text-at.new.out in
-    let at = c.put-text-at.result in
+    let xs = c.put_text-at.new.out in
+    let at = c.put_text-at.result in
     let f : List ℕ = 32 ∷ field_text (get_or fs i no_field) in
     let m = length_more fs i (omega arith) in
     let t = ap length c.text.ensures.text in
     let l = length-line c.args.head fs in (
       omega arith,
-      c.put-next-at.ensures.bytes
+      c.put_next-at.ensures.bytes
           ∙ ap (over_at c.loop-field.at f) c.loop-field.invariant.1
           ∙ ap (λ n. over_at n f (over_at at (after (take i fs)) xs)) c.loop-field.invariant.0
           ∙ over_at_more xs (after (take i fs)) f at (omega arith)
@@ -44,14 +44,14 @@ pub returns : goal.returns
 returns c =
     let fs = c.args.fields.now in
     let xs = c.args.out.now in
-    let ys = c.put-text-at.new.out in
-    let n = c.put-text-at.result in
+    let ys = c.put_text-at.new.out in
+    let n = c.put_text-at.result in
     let t = ap length c.text.ensures.text in
     let a = after_all fs c.loop-field.field-index (omega arith) in
     let m = ap length a in
     let l = length-line c.args.head fs in
     ended xs ys c.loop-field.out (word_text c.args.head) (after fs) n c.loop-field.at 10
-    (c.put-text-at.ensures.bytes ∙ ap (λ t. over t xs) c.text.ensures.text)
+    (c.put_text-at.ensures.bytes ∙ ap (λ t. over t xs) c.text.ensures.text)
     (omega arith)
     (c.loop-field.invariant.1 ∙ ap (λ t. over_at n t ys) a)
     (omega arith)

@@ -7,11 +7,11 @@ use Rattle.line.proofs.layout.write_line.Goals as goal
 
 pub returns : goal.returns
 returns c =
-    let e = c.line-length-needed.ensures.count in
-    let b = c.line-length-needed.ensures.bound in
+    let e = c.line_length-needed.ensures.count in
+    let b = c.line_length-needed.ensures.bound in
     let ts : List (List ℕ) = word_text c.args.head ∷ map field_text c.args.fields.now in
     let s = line_some ts in
     record {
-      written = (omega arith, omega arith, at_end c.args.out.now c.put-line.new.out (line_of ts) c.args.at (omega arith) c.put-line.ensures);
+      written = (omega arith, omega arith, at_end c.args.out.now c.put_line.new.out (line_of ts) c.args.at (omega arith) c.put_line.ensures);
       bound = omega arith;
     }

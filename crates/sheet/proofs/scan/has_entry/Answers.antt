@@ -8,14 +8,14 @@ pub loop-e-preserved : goal.loop-e-preserved
 loop-e-preserved c =
     any_more _ _ _ (record { from = 0; to = 0 }) c.loop-e-test.true c.loop-e.invariant
     (elim c.else-e-header.branch [
-      | else_e_header_via_then_e_header+else_not_has_back w ↦ and_second _ _ (ap not (sym w.has-back.ensures ∙ w.if-not-has-back.false))
+      | else_e_header_via_then_e_header+else_not_has_back w ↦ and_second _ _ (ap not (sym w.has_back.ensures ∙ w.if-not-has_back.false))
       | else_e_header_via_else_e_header w ↦ and_first _ _ (ne_eqb _ _ w.if-e-header.false)
     ])
 
-pub returns-then-not-has-back : goal.returns-then-not-has-back
-returns-then-not-has-back c =
+pub returns-then-not-has_back : goal.returns-then-not-has_back
+returns-then-not-has_back c =
     sym (any_at _ _ _ (record { from = 0; to = 0 }) c.loop-e-test.true
-    (and_from _ _ (eq-eqb _ _ c.if-e-header.true) (ap not (sym c.has-back.ensures ∙ c.if-not-has-back.true))))
+    (and_from _ _ (eq-eqb _ _ c.if-e-header.true) (ap not (sym c.has_back.ensures ∙ c.if-not-has_back.true))))
 
 pub returns : goal.returns
 returns c = sym (any_whole _ _ _ (record { from = 0; to = 0 }) c.loop-e-test.false c.loop-e.invariant)

@@ -10,5 +10,5 @@ use Rattle.sheet.proofs.draft.Draft.block.Goals as goal
 
 pub returns : goal.returns
 returns c =
-    moved c.args.section (items_of c.args.self.now) (items_of c.block-word.new.self) (add_block (items_of c.args.self.now) c.args.payload.0) BLOCK c.args.payload.0 c.args.at [] (Ok (Some (LBlocks c.args.payload.0))) c.in-ok-block-word.ensures.1
-    (block_turn (items_of c.args.self.now) c.args.payload.0 c.args.at [] c.args.section c.requires (sym c.due.ensures ∙ c.in-ok-demand.ensures) c.in-ok-block-word.ensures.0)
+    moved c.args.section (items_of c.args.self.now) (items_of c.block_word.new.self) (add_block (items_of c.args.self.now) c.args.payload.0) BLOCK c.args.payload.0 c.args.at [] (Ok (Some (LBlocks c.args.payload.0))) c.in_ok-block_word.ensures.1
+    (block_turn (items_of c.args.self.now) c.args.payload.0 c.args.at [] c.args.section c.requires (sym c.due.ensures ∙ c.in_ok-demand.ensures) c.in_ok-block_word.ensures.0)

@@ -8,13 +8,13 @@ use Rattle.sheet.specs.Tried.{items_of}
 use Rattle.sheet.proofs.Turns.{moved, broke, edge_turn, edge_trial}
 use Rattle.sheet.proofs.draft.Draft.edge.Goals as goal
 
-pub returns-in-err-edge-word : goal.returns-in-err-edge-word
-returns-in-err-edge-word c =
-    let p = err_from_is_err_and c.from-residual-in-err-edge-word.result c.from-residual-in-err-edge-word.ensures.1 in
+pub returns-in_err-edge_word : goal.returns-in_err-edge_word
+returns-in_err-edge_word c =
+    let p = err_from_is_err_and c.from_residual-in_err-edge_word.result c.from_residual-in_err-edge_word.ensures.1 in
     rw (p.1, p.2)
-    (broke c.args.section (items_of c.args.self.now) EDGE c.args.payload.0 c.args.at [] _ c.in-err-edge-word.field-0.0 (edge_trial c.args.section (items_of c.args.self.now) c.args.payload.0 c.args.at []) (sym c.due.ensures ∙ c.in-ok-demand.ensures) c.in-err-edge-word.ensures)
+    (broke c.args.section (items_of c.args.self.now) EDGE c.args.payload.0 c.args.at [] _ c.in_err-edge_word.field-0.0 (edge_trial c.args.section (items_of c.args.self.now) c.args.payload.0 c.args.at []) (sym c.due.ensures ∙ c.in_ok-demand.ensures) c.in_err-edge_word.ensures)
 
 pub returns : goal.returns
 returns c =
-    moved c.args.section (items_of c.args.self.now) (items_of c.edge-word.new.self) (add_edge (items_of c.args.self.now) c.args.payload.0) EDGE c.args.payload.0 c.args.at [] (Ok (Some Edges)) c.in-ok-edge-word.ensures.1
-    (edge_turn (items_of c.args.self.now) c.args.payload.0 c.args.at [] c.args.section c.requires (sym c.due.ensures ∙ c.in-ok-demand.ensures) c.in-ok-edge-word.ensures.0)
+    moved c.args.section (items_of c.args.self.now) (items_of c.edge_word.new.self) (add_edge (items_of c.args.self.now) c.args.payload.0) EDGE c.args.payload.0 c.args.at [] (Ok (Some Edges)) c.in_ok-edge_word.ensures.1
+    (edge_turn (items_of c.args.self.now) c.args.payload.0 c.args.at [] c.args.section c.requires (sym c.due.ensures ∙ c.in_ok-demand.ensures) c.in_ok-edge_word.ensures.0)

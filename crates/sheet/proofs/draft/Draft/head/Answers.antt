@@ -10,5 +10,5 @@ use Rattle.sheet.proofs.draft.Draft.head.Goals as goal
 
 pub returns : goal.returns
 returns c =
-    moved c.args.section (items_of c.args.self.now) (items_of c.head-word.new.self) (add_head (items_of c.args.self.now) c.args.payload.0) HEAD c.args.payload.0 c.args.at [] (Ok (Some First)) c.in-ok-head-word.ensures.1
-    (head_turn (items_of c.args.self.now) c.args.payload.0 c.args.at [] c.args.section c.requires (sym c.due.ensures ∙ c.in-ok-demand.ensures) c.in-ok-head-word.ensures.0)
+    moved c.args.section (items_of c.args.self.now) (items_of c.head_word.new.self) (add_head (items_of c.args.self.now) c.args.payload.0) HEAD c.args.payload.0 c.args.at [] (Ok (Some First)) c.in_ok-head_word.ensures.1
+    (head_turn (items_of c.args.self.now) c.args.payload.0 c.args.at [] c.args.section c.requires (sym c.due.ensures ∙ c.in_ok-demand.ensures) c.in_ok-head_word.ensures.0)

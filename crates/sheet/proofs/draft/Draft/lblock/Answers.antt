@@ -8,22 +8,22 @@ pub returns : goal.returns
 returns c = record {
   same = c.skip.ensures.same;
   went = pair_went (items_of c.args.self.now) c.args.lacking c.args.reader.now.words.now c.rest-words.result.now c.args.reader.now.at c.rest-words.ensures.left
-      c.place-at.result (items_of c.lblock-words.new.self) c.past-lblock.result c.skip.new.self.at c.place-at.ensures (omega (arith, ltb-false)) c.requires c.in-ok-lblock-words.ensures c.past-lblock.ensures
+      c.place-at.result (items_of c.lblock_words.new.self) c.past_lblock.result c.skip.new.self.at c.place-at.ensures (omega (arith, ltb-false)) c.requires c.in_ok-lblock_words.ensures c.past_lblock.ensures
       (let h = c.skip.ensures.moves in omega (arith, ltb-false, length-take (length c.rest-words.result.now - 2) (drop 2 c.rest-words.result.now), length-drop 2 c.rest-words.result.now, ap length c.rest-words.ensures.left, length-drop c.args.reader.now.at c.args.reader.now.words.now));
 }
 
-pub returns-in-err-lblock-words : goal.returns-in-err-lblock-words
-returns-in-err-lblock-words c =
-    let p = err_from_is_err_and c.from-residual.result c.from-residual.ensures.1 in
+pub returns-in_err-lblock_words : goal.returns-in_err-lblock_words
+returns-in_err-lblock_words c =
+    let p = err_from_is_err_and c.from_residual.result c.from_residual.ensures.1 in
     record {
       same = refl;
       went = rw (p.1, p.2)
           (pair_fails (items_of c.args.self.now) c.args.lacking c.args.reader.now.words.now c.rest-words.result.now c.args.reader.now.at c.rest-words.ensures.left
-          c.place-at.result (items_of c.lblock-words.new.self) c.in-err-lblock-words.field-0.0 c.place-at.ensures (omega (arith, ltb-false)) c.in-err-lblock-words.ensures);
+          c.place-at.result (items_of c.lblock_words.new.self) c.in_err-lblock_words.field-0.0 c.place-at.ensures (omega (arith, ltb-false)) c.in_err-lblock_words.ensures);
     }
 
-pub returns-in-default : goal.returns-in-default
-returns-in-default c = record {
+pub returns-in_default : goal.returns-in_default
+returns-in_default c = record {
   same = refl;
-  went = cut_fails (items_of c.args.self.now) c.args.lacking c.args.reader.now.words.now c.rest-words.result.now c.args.reader.now.at c.place-at.result c.cut-lblock.result c.rest-words.ensures.left c.place-at.ensures (omega (arith, ltb-true)) c.cut-lblock.ensures;
+  went = cut_fails (items_of c.args.self.now) c.args.lacking c.args.reader.now.words.now c.rest-words.result.now c.args.reader.now.at c.place-at.result c.cut_lblock.result c.rest-words.ensures.left c.place-at.ensures (omega (arith, ltb-true)) c.cut_lblock.ensures;
 }

@@ -6,26 +6,26 @@ use Rattle.sheet.specs.Tried.{items_of}
 use Rattle.sheet.proofs.Finding.{reader_laws, read_kept, all_few}
 use Rattle.sheet.proofs.room.SheetRoom.read.Goals as goal
 
-pub returns-in-err-read : goal.returns-in-err-read
-returns-in-err-read c =
-    let p = err_from_is_err_and c.from-residual.result c.from-residual.ensures.1 in
-    record { answer = rw (p.1, p.2) (c.in-err-read.ensures, refl); laws = reader_laws }
+pub returns-in_err-read : goal.returns-in_err-read
+returns-in_err-read c =
+    let p = err_from_is_err_and c.from_residual.result c.from_residual.ensures.1 in
+    record { answer = rw (p.1, p.2) (c.in_err-read.ensures, refl); laws = reader_laws }
 
-pub returns-in-err-find-conflicts : goal.returns-in-err-find-conflicts
-returns-in-err-find-conflicts c =
-    let p = err_from_is_err_and c.from-residual-in-err-find-conflicts.result c.from-residual-in-err-find-conflicts.ensures.1 in
-    record { answer = rw (p.1, p.2) (c.in-ok-read.ensures.0 ∙ c.in-err-find-conflicts.ensures.found, refl); laws = reader_laws }
+pub returns-in_err-find_conflicts : goal.returns-in_err-find_conflicts
+returns-in_err-find_conflicts c =
+    let p = err_from_is_err_and c.from_residual-in_err-find_conflicts.result c.from_residual-in_err-find_conflicts.ensures.1 in
+    record { answer = rw (p.1, p.2) (c.in_ok-read.ensures.0 ∙ c.in_err-find_conflicts.ensures.found, refl); laws = reader_laws }
 
 pub replace-requires : goal.replace-requires
 replace-requires c = record {
-  fits = read_kept (items_of c.read.new.self) c.in-ok-read.ensures.1 c.in-ok-find-conflicts.ensures.found.0;
-  listed = c.in-ok-find-conflicts.ensures.found.1;
-  room = c.in-ok-find-conflicts.ensures.room;
+  fits = read_kept (items_of c.read.new.self) c.in_ok-read.ensures.1 c.in_ok-find_conflicts.ensures.found.0;
+  listed = c.in_ok-find_conflicts.ensures.found.1;
+  room = c.in_ok-find_conflicts.ensures.room;
 }
 
 pub returns : goal.returns
 returns c = record {
-  answer = c.in-ok-read.ensures.0 ∙ all_few (sheet_of (items_of c.read.new.self)) c.in-ok-find-conflicts.ensures.found.0
+  answer = c.in_ok-read.ensures.0 ∙ all_few (sheet_of (items_of c.read.new.self)) c.in_ok-find_conflicts.ensures.found.0
       ∙ ap (λ i. accepted (sheet_of i)) (sym c.replace.ensures.taken);
   laws = reader_laws;
 }

@@ -6,11 +6,11 @@ use Rattle.sheet.specs.Kept.{Kept}
 use Rattle.sheet.proofs.Blank.{blank_listed, blank_used, blank_kept}
 use Rattle.sheet.proofs.timing.Sheet.blank.Goals as goal
 
-pub invariant-of-result : goal.invariant-of-result
-invariant-of-result c =
-    let e = c.in-ok-draft.ensures in
-    let f = c.in-ok-conflicts.ensures in
-    let d = c.in-ok-draft.draft in (
+pub invariant_of-result : goal.invariant_of-result
+invariant_of-result c =
+    let e = c.in_ok-draft.ensures in
+    let f = c.in_ok-conflicts.ensures in
+    let d = c.in_ok-draft.draft in (
       f.1,
       (
         omega (arith, d.blocks.ok.0, ap (λ i. length i.blocks) e),
@@ -23,7 +23,7 @@ invariant-of-result c =
               (
                 omega (arith, d.facts.ok.0, ap (λ i. length i.facts) e),
                 (
-                  omega (arith, c.in-ok-conflicts.conflicts.ok.0, ap length f.0),
+                  omega (arith, c.in_ok-conflicts.conflicts.ok.0, ap length f.0),
                   (
                     omega arith,
                     (

@@ -8,10 +8,10 @@ use Rattle.sheet.proofs.Turns.{length-loops}
 use Rattle.sheet.proofs.Used.{used_few}
 use Rattle.sheet.proofs.timing.Sheet.replace.Goals as goal
 
-pub invariant-of-self : goal.invariant-of-self
-invariant-of-self c =
-    let e = c.swap.ensures.x-after in
-    let f = c.swap-2.ensures.x-after in
+pub invariant_of-self : goal.invariant_of-self
+invariant_of-self c =
+    let e = c.swap.ensures.x_after in
+    let f = c.swap-2.ensures.x_after in
     let d = c.args.draft.now in
     let p = c.requires.fits.fits.parts in (
       subst (λ v. 4096 ≤ vec_capacity v) (sym f) c.requires.room,
@@ -28,9 +28,9 @@ invariant-of-self c =
                 (
                   omega (arith, ap vec_len f, c.args.conflicts.now.ok.0, ap length c.requires.listed, c.requires.fits.fits.few_conflicts),
                   (
-                    omega (arith, c.count-used-used.ensures, used_few c.deref.result.now d.sets, p.blocks_fit.few_sets),
+                    omega (arith, c.count_used-used.ensures, used_few c.deref.result.now d.sets, p.blocks_fit.few_sets),
                     (
-                      c.count-used-used.ensures ∙ ap (λ vs. used_among vs d.sets) c.deref.ensures.value ∙ sym (ap (λ x. length (used_sets (sheet_of (items_of x)))) e),
+                      c.count_used-used.ensures ∙ ap (λ vs. used_among vs d.sets) c.deref.ensures.value ∙ sym (ap (λ x. length (used_sets (sheet_of (items_of x)))) e),
                       (
                         ap vec_items f ∙ c.requires.listed ∙ sym (ap (λ x. conflicts (sheet_of (items_of x))) e),
                         (∣ subst (λ x. Kept (items_of x)) (sym e) c.requires.fits ∣₁, tt),

@@ -15,8 +15,8 @@ loop-e-init c = (
 pub index-requires : goal.index-requires
 index-requires c = omega (arith, All-get_or (λ e. e.from < c.args.blocks) c.args.edges.now c.loop-e.e-index no_edge c.loop-e-test.true c.requires.from, c.loop-e.invariant.0.each_block)
 
-pub index-mut-requires : goal.index-mut-requires
-index-mut-requires c = omega (arith, All-get_or (λ e. e.from < c.args.blocks) c.args.edges.now c.loop-e.e-index no_edge c.loop-e-test.true c.requires.from, c.loop-e.invariant.0.each_block)
+pub index_mut-requires : goal.index_mut-requires
+index_mut-requires c = omega (arith, All-get_or (λ e. e.from < c.args.blocks) c.args.edges.now c.loop-e.e-index no_edge c.loop-e-test.true c.requires.from, c.loop-e.invariant.0.each_block)
 
 pub loop-e-preserved : goal.loop-e-preserved
 loop-e-preserved c =
@@ -27,4 +27,4 @@ loop-e-preserved c =
     let r = linked_more es c.args.blocks k (vec_items c.loop-e.latest) (vec_items c.loop-e.before) f refl low c.loop-e.invariant.0 in
     let n : k + 1 ≡ c.len.result = omega (arith, c.loop-e.invariant.0.each_edge) in
     let h : get_or (vec_items c.loop-e.latest) f 0 ≡ c.index.result.now = sym (get_or_read (vec_items c.loop-e.latest) f c.index.result.now (omega (arith, c.loop-e.invariant.0.each_block)) c.index.ensures 0) in
-    (subst₂ (Linked es c.args.blocks (k + 1)) (rw n) (rw h (sym c.push-reserved.ensures.items)) r, cc, cc)
+    (subst₂ (Linked es c.args.blocks (k + 1)) (rw n) (rw h (sym c.push_reserved.ensures.items)) r, cc, cc)

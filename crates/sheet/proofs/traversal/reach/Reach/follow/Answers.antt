@@ -12,8 +12,8 @@ use Rattle.sheet.proofs.traversal.reach.Reach.follow.Goals as goal
 leads_in : (g : Graph) → Searchable g → (i : ℕ) → i < length g.edges.now → (get_or g.edges.now i no_edge).to < length g.blocks.now
 leads_in g r i l = to_in (sheet_of g) r.formed (first_of g.blocks.now) (size_of g.blocks.now) r.table i l
 
-pub offset-bounds-g-to : goal.offset-bounds-g-to
-offset-bounds-g-to c = omega (arith, leads_in c.args.g.now c.requires.graph (c.loop-e.e - 1) (omega (arith, c.loop-e.invariant.1)), c.requires.graph.few_blocks)
+pub offset_bounds-g-to : goal.offset_bounds-g-to
+offset_bounds-g-to c = omega (arith, leads_in c.args.g.now c.requires.graph (c.loop-e.e - 1) (omega (arith, c.loop-e.invariant.1)), c.requires.graph.few_blocks)
 
 pub bounds-g-to : goal.bounds-g-to
 bounds-g-to c = leads_in c.args.g.now c.requires.graph (c.loop-e.e - 1) (omega (arith, c.loop-e.invariant.1))

@@ -5,8 +5,8 @@ use Rattle.sheet.specs.Traversal.{sheet_of, edge_at, edge_to}
 use Rattle.sheet.proofs.Added.{added_is, added_after, added_over, rest_more, rest_over, rest_all, from_parts}
 use Rattle.sheet.proofs.traversal.reach.Reach.list.Goals as goal
 
-pub returns-then-not-list-at : goal.returns-then-not-list-at
-returns-then-not-list-at c =
+pub returns-then-not-list_at : goal.returns-then-not-list_at
+returns-then-not-list_at c =
     let S = sheet_of c.args.g.now in
     let s = c.args.self.now.set in
     let u = c.args.self.now.from in
@@ -15,8 +15,8 @@ returns-then-not-list-at c =
     record {
       added = subst (λ ys. 4096 < length xs + length ys) (from_parts S s u)
           (added_over xs first (edge_to S s u END)
-          (rest_over (edge_at S s u) (length S.lblocks) (xs ++ first) (vec_items c.loop-v.out) c.loop-v.v c.loop-v-test.true c.loop-v.invariant.0 c.if-not-list-at.ensures.added));
-      room = c.list-at.ensures.room;
+          (rest_over (edge_at S s u) (length S.lblocks) (xs ++ first) (vec_items c.loop-v.out) c.loop-v.v c.loop-v-test.true c.loop-v.invariant.0 c.if-not-list_at.ensures.added));
+      room = c.list_at.ensures.room;
     }
 
 pub loop-v-preserved : goal.loop-v-preserved
@@ -24,10 +24,10 @@ loop-v-preserved c =
     let S = sheet_of c.args.g.now in
     let s = c.args.self.now.set in
     let u = c.args.self.now.from in
-    let h = c.if-not-list-at.ensures.added in (
-      rest_more (edge_at S s u) (length S.lblocks) _ (vec_items c.loop-v.out) (vec_items c.list-at.new.out) c.loop-v.v c.loop-v-test.true c.loop-v.invariant.0 h.0,
+    let h = c.if-not-list_at.ensures.added in (
+      rest_more (edge_at S s u) (length S.lblocks) _ (vec_items c.loop-v.out) (vec_items c.list_at.new.out) c.loop-v.v c.loop-v-test.true c.loop-v.invariant.0 h.0,
       omega (arith, h.1),
-      c.list-at.ensures.room,
+      c.list_at.ensures.room,
     )
 
 pub returns : goal.returns
@@ -38,8 +38,8 @@ returns c =
     let xs = vec_items c.args.out.now in
     let first = joined (edge_at S s u) (below (length S.lblocks)) in
     record {
-      added = added_is xs (first ++ edge_to S s u END) _ c.list-end.result (vec_items c.list-end.new.out) (from_parts S s u)
-          (added_after xs first (edge_to S s u END) (vec_items c.loop-v.out) c.list-end.result (vec_items c.list-end.new.out)
-          (rest_all (edge_at S s u) (length S.lblocks) (xs ++ first) (vec_items c.loop-v.out) c.loop-v.v c.loop-v-test.false c.loop-v.invariant.0) c.list-end.ensures.added);
-      room = c.list-end.ensures.room;
+      added = added_is xs (first ++ edge_to S s u END) _ c.list_end.result (vec_items c.list_end.new.out) (from_parts S s u)
+          (added_after xs first (edge_to S s u END) (vec_items c.loop-v.out) c.list_end.result (vec_items c.list_end.new.out)
+          (rest_all (edge_at S s u) (length S.lblocks) (xs ++ first) (vec_items c.loop-v.out) c.loop-v.v c.loop-v-test.false c.loop-v.invariant.0) c.list_end.ensures.added);
+      room = c.list_end.ensures.room;
     }

@@ -6,42 +6,42 @@ use Rattle.sheet.specs.Traversal.{sheet_of, edges_from}
 use Rattle.sheet.proofs.Added.{added_is, added_after, rest_more, rest_over, rest_all, of_parts}
 use Rattle.sheet.proofs.traversal.reach.Reach.list_set.Goals as goal
 
-pub returns-then-not-list-from : goal.returns-then-not-list-from
-returns-then-not-list-from c =
+pub returns-then-not-list_from : goal.returns-then-not-list_from
+returns-then-not-list_from c =
     let S = sheet_of c.args.g.now in
     let s = c.args.set in
     let xs = vec_items c.args.out.now in
-    let h = c.if-not-list-from.ensures.added in
+    let h = c.if-not-list_from.ensures.added in
     let rest = joined (edges_from S s) (below (length S.lblocks)) in
     record {
       added = subst (λ ys. 4096 < length xs + length ys) (of_parts S s) (omega (arith, h, length-append (conflicts_from S s START) rest));
-      room = c.list-from.ensures.room;
-      reserved = c.list-from.ensures.reserved;
+      room = c.list_from.ensures.room;
+      reserved = c.list_from.ensures.reserved;
     }
 
-pub returns-then-not-list-lblock : goal.returns-then-not-list-lblock
-returns-then-not-list-lblock c =
+pub returns-then-not-list_lblock : goal.returns-then-not-list_lblock
+returns-then-not-list_lblock c =
     let S = sheet_of c.args.g.now in
     let s = c.args.set in
     let xs = vec_items c.args.out.now in
-    let ys = vec_items c.list-from.new.out in
+    let ys = vec_items c.list_from.new.out in
     let rest = joined (edges_from S s) (below (length S.lblocks)) in
-    let h = rest_over (edges_from S s) (length S.lblocks) (ys ++ rest) (vec_items c.loop-v.out) c.loop-v.v c.loop-v-test.true c.loop-v.invariant.0 c.if-not-list-lblock.ensures.added in
+    let h = rest_over (edges_from S s) (length S.lblocks) (ys ++ rest) (vec_items c.loop-v.out) c.loop-v.v c.loop-v-test.true c.loop-v.invariant.0 c.if-not-list_lblock.ensures.added in
     record {
       added = subst (λ zs. 4096 < length xs + length zs) (of_parts S s)
-          (added_after xs (conflicts_from S s START) rest ys false ys c.if-not-list-from.ensures.added.0 (omega (arith, h, length-append ys rest)));
-      room = c.list-lblock.ensures.room;
-      reserved = c.list-lblock.ensures.reserved;
+          (added_after xs (conflicts_from S s START) rest ys false ys c.if-not-list_from.ensures.added.0 (omega (arith, h, length-append ys rest)));
+      room = c.list_lblock.ensures.room;
+      reserved = c.list_lblock.ensures.reserved;
     }
 
 pub loop-v-preserved : goal.loop-v-preserved
 loop-v-preserved c =
     let S = sheet_of c.args.g.now in
-    let h = c.if-not-list-lblock.ensures.added in (
-      rest_more (edges_from S c.args.set) (length S.lblocks) _ (vec_items c.loop-v.out) (vec_items c.list-lblock.new.out) c.loop-v.v c.loop-v-test.true c.loop-v.invariant.0 h.0,
+    let h = c.if-not-list_lblock.ensures.added in (
+      rest_more (edges_from S c.args.set) (length S.lblocks) _ (vec_items c.loop-v.out) (vec_items c.list_lblock.new.out) c.loop-v.v c.loop-v-test.true c.loop-v.invariant.0 h.0,
       omega (arith, h.1),
-      c.list-lblock.ensures.room,
-      c.list-lblock.ensures.reserved,
+      c.list_lblock.ensures.room,
+      c.list_lblock.ensures.reserved,
     )
 
 pub returns : goal.returns
@@ -49,11 +49,11 @@ returns c =
     let S = sheet_of c.args.g.now in
     let s = c.args.set in
     let xs = vec_items c.args.out.now in
-    let ys = vec_items c.list-from.new.out in
+    let ys = vec_items c.list_from.new.out in
     let rest = joined (edges_from S s) (below (length S.lblocks)) in
     record {
       added = added_is xs (conflicts_from S s START ++ rest) (conflicts_of S s) true (vec_items c.loop-v.out) (of_parts S s)
-          (added_after xs (conflicts_from S s START) rest ys true (vec_items c.loop-v.out) c.if-not-list-from.ensures.added.0
+          (added_after xs (conflicts_from S s START) rest ys true (vec_items c.loop-v.out) c.if-not-list_from.ensures.added.0
           (rest_all (edges_from S s) (length S.lblocks) (ys ++ rest) (vec_items c.loop-v.out) c.loop-v.v c.loop-v-test.false c.loop-v.invariant.0, omega (arith, c.loop-v.invariant.1)));
       room = c.loop-v.invariant.2;
       reserved = c.loop-v.invariant.3;

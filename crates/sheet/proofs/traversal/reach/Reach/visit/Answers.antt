@@ -55,8 +55,8 @@ returns-then-g-k c = record {
   saw = flag (sheet_of c.args.g.now) c.args.self.now c.args.k c.index.result.now c.requires.going c.requires.known c.requires.leads c.index.ensures c.if-index.false;
 }
 
-pub push-reserved-requires : goal.push-reserved-requires
-push-reserved-requires c =
+pub push_reserved-requires : goal.push_reserved-requires
+push_reserved-requires c =
     let h = room (sheet_of c.args.g.now) c.args.self.now c.args.k c.index.result.now c.requires.going c.requires.known c.requires.leads c.index.ensures c.if-index.false in
     omega (arith, c.requires.graph.few_lblocks, c.requires.going.reserved.places)
 
@@ -64,14 +64,14 @@ pub returns : goal.returns
 returns c =
     let S = sheet_of c.args.g.now in
     let r = c.args.self.now in
-    let q = sym c.push-reserved.ensures.items in
+    let q = sym c.push_reserved.ensures.items in
     record {
       on = record {
         going = record {
           front = subst (Front S r.set r.from (vec_items (with_item r.seen c.args.k true))) {x = vec_items r.queue ++ (c.args.k ∷ [])} q
               (goes_on S r c.args.k c.index.result.now c.requires.going c.requires.known c.requires.leads c.index.ensures c.if-index.false
               (omega (arith, c.requires.known, c.if-k-g.false)) (ne_eqb _ r.set c.if-g-k.false));
-          reserved = record { flags = c.requires.going.reserved.flags; places = omega (arith, c.push-reserved.ensures.capacity, c.requires.going.reserved.places) };
+          reserved = record { flags = c.requires.going.reserved.flags; places = omega (arith, c.push_reserved.ensures.capacity, c.requires.going.reserved.places) };
         };
         same_set = refl;
         same_from = refl;
