@@ -3,14 +3,14 @@ use Rattle.std.proofs.lemmas.Bool.{eq-eqb, ne_eqb, and_from}
 use Rattle.words.proofs.Scans.{any_more, any_whole, any_at, and_first, and_second}
 use Rattle.sheet.proofs.Drafts.{any_backs}
 use Rattle.sheet.proofs.scan.has_back.Goals as goal
-use Rattle.sheet.proofs.scan.has_back.Goals.{else_b_owner_via_then_b_owner+else_source_b, else_b_owner_via_else_b_owner}
+use Rattle.sheet.proofs.scan.has_back.Goals.{else-b-owner-via-then-b-owner+else-source-b, else-b-owner-via-else-b-owner}
 
 pub loop-b-preserved : goal.loop-b-preserved
 loop-b-preserved c =
     any_more _ _ _ (record { owner = 0; source = 0 }) c.loop-b-test.true c.loop-b.invariant
     (elim c.else-b-owner.branch [
-      | else_b_owner_via_then_b_owner+else_source_b w ↦ and_second _ _ (ne_eqb _ _ w.if-source-b.false)
-      | else_b_owner_via_else_b_owner w ↦ and_first _ _ (ne_eqb _ _ w.if-b-owner.false)
+      | else-b-owner-via-then-b-owner+else-source-b w ↦ and_second _ _ (ne_eqb _ _ w.if-source-b.false)
+      | else-b-owner-via-else-b-owner w ↦ and_first _ _ (ne_eqb _ _ w.if-b-owner.false)
     ])
 
 pub returns-then-source-b : goal.returns-then-source-b

@@ -2,14 +2,14 @@ use Rattle.std.proofs.Common.{sym}
 use Rattle.std.proofs.lemmas.Bool.{eq-eqb, ne_eqb, and_from}
 use Rattle.words.proofs.Scans.{any_more, any_whole, any_at, and_first, and_second}
 use Rattle.sheet.proofs.scan.has_edge.Goals as goal
-use Rattle.sheet.proofs.scan.has_edge.Goals.{else_from_e_via_then_from_e+else_to_e, else_from_e_via_else_from_e}
+use Rattle.sheet.proofs.scan.has_edge.Goals.{else-from-e-via-then-from-e+else-to-e, else-from-e-via-else-from-e}
 
 pub loop-e-preserved : goal.loop-e-preserved
 loop-e-preserved c =
     any_more _ _ _ (record { from = 0; to = 0 }) c.loop-e-test.true c.loop-e.invariant
     (elim c.else-from-e.branch [
-      | else_from_e_via_then_from_e+else_to_e w ↦ and_second _ _ (ne_eqb _ _ w.if-to-e.false)
-      | else_from_e_via_else_from_e w ↦ and_first _ _ (ne_eqb _ _ w.if-from-e.false)
+      | else-from-e-via-then-from-e+else-to-e w ↦ and_second _ _ (ne_eqb _ _ w.if-to-e.false)
+      | else-from-e-via-else-from-e w ↦ and_first _ _ (ne_eqb _ _ w.if-from-e.false)
     ])
 
 pub returns-then-to-e : goal.returns-then-to-e

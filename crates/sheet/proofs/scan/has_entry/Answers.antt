@@ -2,14 +2,14 @@ use Rattle.std.proofs.Common.{not, sym, ap, ◌∙◌}
 use Rattle.std.proofs.lemmas.Bool.{eq-eqb, ne_eqb, and_from}
 use Rattle.words.proofs.Scans.{any_more, any_whole, any_at, and_first, and_second}
 use Rattle.sheet.proofs.scan.has_entry.Goals as goal
-use Rattle.sheet.proofs.scan.has_entry.Goals.{else_e_header_via_then_e_header+else_not_has_back, else_e_header_via_else_e_header}
+use Rattle.sheet.proofs.scan.has_entry.Goals.{else-e-header-via-then-e-header+else-not-has_back, else-e-header-via-else-e-header}
 
 pub loop-e-preserved : goal.loop-e-preserved
 loop-e-preserved c =
     any_more _ _ _ (record { from = 0; to = 0 }) c.loop-e-test.true c.loop-e.invariant
     (elim c.else-e-header.branch [
-      | else_e_header_via_then_e_header+else_not_has_back w ↦ and_second _ _ (ap not (sym w.has_back.ensures ∙ w.if-not-has_back.false))
-      | else_e_header_via_else_e_header w ↦ and_first _ _ (ne_eqb _ _ w.if-e-header.false)
+      | else-e-header-via-then-e-header+else-not-has_back w ↦ and_second _ _ (ap not (sym w.has_back.ensures ∙ w.if-not-has_back.false))
+      | else-e-header-via-else-e-header w ↦ and_first _ _ (ne_eqb _ _ w.if-e-header.false)
     ])
 
 pub returns-then-not-has_back : goal.returns-then-not-has_back

@@ -13,5 +13,5 @@ returns-in_err-inside c =
     (sym c.due.ensures ∙ c.in_ok-demand.ensures) c.in_err-inside.ensures)
 
 pub returns : goal.returns
-returns c = loop_turned c.args.section c.in_ok-inside.inside (items_of c.args.self.now) (items_of c.loop_word.last.self) c.args.payload.0 c.args.at [] c.requires
+returns c = loop_turned c.args.section c.in_ok-inside.inside (items_of c.args.self.now) (items_of c.loop_word.new.self) c.args.payload.0 c.args.at [] c.requires
     (sym c.due.ensures ∙ c.in_ok-demand.ensures) c.in_ok-inside.ensures
