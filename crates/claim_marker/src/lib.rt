@@ -1,4 +1,6 @@
 // What the program does with its input, as functions on values.
+#![tactic(auto)]
+
 mod input;
 pub mod report;
 mod stream;

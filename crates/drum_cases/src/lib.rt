@@ -1,4 +1,6 @@
 // The drum task's worked cases, as one statement about the definitions.
+#![tactic(auto)]
+
 ghost use Rattle.drum_cases.specs.Drum.{DrumTask};
 
 // Its conflict edges, rows and columns, and what judge answers to its certificate and to six others.

@@ -1,4 +1,6 @@
 // Times the reading of a sheet and the judging of its certificate. The words of the one and then the other come from standard input.
+#![tactic(auto)]
+
 use anyhow::anyhow;
 use claim::judge::judge;
 use sheet::room::SheetRoom;

@@ -1,4 +1,6 @@
 // Judges each stored certificate of standard input against its sheet, and prints a line.
+#![tactic(auto)]
+
 mod answer;
 mod container;
 

@@ -1,4 +1,6 @@
 // Reads a timing sheet from standard input and prints its line, or that of its refusal.
+#![tactic(auto)]
+
 use anyhow::anyhow;
 use line::fault::LineFault;
 use marker::report::{MOST_BYTES, Marker};

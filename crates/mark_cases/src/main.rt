@@ -1,4 +1,6 @@
 // Marks each stored input of standard input, and prints its lines and an empty line.
+#![tactic(auto)]
+
 mod container;
 
 use anyhow::Context;

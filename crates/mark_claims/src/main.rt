@@ -1,4 +1,6 @@
 // Marks the words of standard input, and prints the lines.
+#![tactic(auto)]
+
 use claim_marker::report::Marker;
 use std::io::{Read, Write};
 

@@ -1,3 +1,5 @@
 // What the program does with its input, as functions on values.
+#![tactic(auto)]
+
 mod input;
 pub mod report;

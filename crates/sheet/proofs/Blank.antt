@@ -1,5 +1,5 @@
 -- The blank sheet fits, and has its two conflict edges. Assumes nothing.
-use Rattle.std.proofs.Common.{◌≡◌, ◌≤◌, [], ◌∷◌, length, refl, arith}
+use Rattle.std.proofs.Common.{◌≡◌, [], ◌∷◌, length, refl, arith}
 use Rattle.words.specs.Words.{accepted}
 use Rattle.sheet.specs.Conflict.{used_sets}
 use Rattle.sheet.specs.ConflictList.{conflicts}

@@ -1,11 +1,11 @@
 -- How many rows and columns there are. Assumes nothing.
-use Rattle.std.proofs.Common.{◌≡◌, ℕ, ◌+◌, ◌*◌, List, [], ◌∷◌, ◌++◌, map, length, sym, refl, ap, ◌∙◌, arith}
+use Rattle.std.proofs.Common.{◌≡◌, ℕ, ◌+◌, ◌*◌, List, ◌++◌, map, length, ◌∙◌, arith}
 use Rattle.std.proofs.lemmas.List.{length-append, length-map}
 use Rattle.words.specs.Lists.{below}
 use Rattle.words.proofs.Lists.{length-below}
 use Rattle.sheet.specs.Sheet.{Sheet}
 use Rattle.sheet.specs.Conflict.{Conflict, used_sets}
-use Rattle.sheet.specs.Rows.{Column, N, T, M, P, columns, Row, in_row, out_row, loop_row, fact_row, arrival_row, departure_row, set_row, miss_row, rows}
+use Rattle.sheet.specs.Rows.{N, T, M, P, columns, Row, in_row, out_row, loop_row, fact_row, arrival_row, departure_row, set_row, miss_row, rows}
 
 mapped : {A : Type 0} (f : ℕ → A) (n : ℕ) → length (map f (below n)) ≡ n
 mapped f n = length-map (below n) f ∙ length-below n

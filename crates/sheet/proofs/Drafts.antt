@@ -1,5 +1,5 @@
 -- The items that the code holds, and the sheet that they are. Assumes nothing.
-use Rattle.std.proofs.Common.{◌≡◌, ℕ, suc, ◌+◌, ◌<◌, ◌≤◌, Bool, true, false, cond, not, ◌&&◌, ◌||◌, eqb, List, [], ◌∷◌, ◌++◌, map, length, filter, sym, refl, ap, ◌∙◌, ap₂, arith}
+use Rattle.std.proofs.Common.{◌≡◌, ℕ, Bool, true, false, cond, not, ◌&&◌, ◌||◌, eqb, List, [], ◌∷◌, map, filter, refl, ap}
 use Rattle.words.specs.Lists.{any}
 use Rattle.words.specs.Words.{empty}
 use Rattle.sheet.specs.declared.parts.BackEdge.{BackEdge}

@@ -7,7 +7,6 @@ use Rattle.sheet.specs.Sheet.{Sheet, LBlock, Edge, WellFormed}
 use Rattle.sheet.specs.Conflict.{Conflict, used_sets}
 use Rattle.sheet.specs.ConflictList.{conflicts}
 use Rattle.sheet.specs.ReadSheet.{passing, finished}
-use Rattle.sheet.specs.SheetWords.{PartsFit}
 use Rattle.sheet.specs.Graph.{graph_of, graph, Table, first_of, size_of}
 use Rattle.sheet.specs.Drafts.{Items, sheet_of}
 use Rattle.sheet.specs.Reads.{Readable, ReaderLaws}

@@ -1,23 +1,21 @@
 -- For code: the two words of an l-block, and how far the words lead. Assumes nothing.
-use Rattle.std.proofs.Common.{◌≡◌, ℕ, zero, suc, ◌+◌, ◌-◌, ◌<◌, ◌≤◌, Bool, true, false, cond, ◌||◌, ltb, ◌⊎◌, List, [], ◌∷◌, ◌++◌, length, get_or, drop, Ok, Err, sym, refl, ap, ◌∙◌, subst, ap₂, ⊎_elim, add-zero, arith, length-drop}
+use Rattle.std.proofs.Common.{◌≡◌, ℕ, ◌+◌, ◌-◌, ◌<◌, ◌≤◌, Bool, true, false, cond, ltb, List, [], ◌∷◌, ◌++◌, length, get_or, drop, Ok, Err, sym, refl, ap, ◌∙◌, subst, ⊎_elim, add-zero, arith, length-drop}
 use mathlib.Core.Option.{Option, none, some}
-use Rattle.std.proofs.lemmas.List.{get_or-drop, drop_more, drop_all}
-use Rattle.std.proofs.lemmas.Bool.{false≢true, ltb-true, ltb-false}
-use Rattle.words.specs.Words.{kind, payload, one_of, same_kind, set_field, tag_field, Check, demand, first_failing, refusal, not_due, ends_early, refused}
-use Rattle.words.proofs.Words.{is_one_of, OneOf, step_on}
-use Rattle.words.proofs.Checks.{fails, passes}
+use Rattle.std.proofs.lemmas.List.{get_or-drop, drop_all}
+use Rattle.std.proofs.lemmas.Bool.{ltb-true, ltb-false}
+use Rattle.words.specs.Words.{kind, payload, one_of, same_kind, set_field, tag_field, Check, demand, first_failing, refusal, not_due, refused}
+use Rattle.words.proofs.Words.{is_one_of}
+use Rattle.words.proofs.Checks.{fails}
 use Rattle.sheet.specs.Kinds.{Kind, LBLOCK, COST, END, Refusal}
 use Rattle.sheet.specs.declared.fault.SheetFault.{SheetFault}
 use Rattle.sheet.specs.declared.section.Section.{Section}
 use Rattle.sheet.specs.declared.section.Section.TheVariants.{LBlocks, Blocks}
 use Rattle.sheet.specs.Faults.{sheet_refusal}
-use Rattle.sheet.specs.Sheet.{Sheet, last_block}
-use Rattle.sheet.specs.ReadSheet.{Stand, at_lblock, at_cost, at_blocks, State, stands, open_loop, checks, demands, next, lacks, lblock_of, finished, closed, read_from}
+use Rattle.sheet.specs.ReadSheet.{at_lblock, at_cost, at_blocks, State, stands, checks, demands, next, lacks, lblock_of, read_from}
 use Rattle.sheet.specs.BlockTable.{Laid}
 use Rattle.sheet.specs.Drafts.{Items, sheet_of, add_lblock}
 use Rattle.sheet.specs.Sections.{state_of, Ready, Goes, stays, takes, section_past_lblock, lblock_demands, cost_demands, Cut, Paired}
 use Rattle.sheet.proofs.Laid.{laid_lblock, laid_some}
-use Rattle.sheet.proofs.FirstFault.{step_refuses}
 use Rattle.sheet.proofs.ReadSteps.{sheet_refused, sheet_goes_on}
 
 -- where one kind is due, the word has it or the first check fails

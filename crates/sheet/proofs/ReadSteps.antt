@@ -3,7 +3,7 @@ use Rattle.std.proofs.Common.{◌≡◌, ℕ, suc, ◌+◌, ◌<◌, true, false
 use mathlib.Core.Option.{none, some}
 use Rattle.std.proofs.lemmas.List.{drop_more, drop_all}
 use Rattle.sheet.specs.Kinds.{END, Refusal}
-use Rattle.words.specs.Words.{kind, payload, same_kind, refusal, ends_early, accepted, refused, first_failing}
+use Rattle.words.specs.Words.{kind, payload, same_kind, refusal, ends_early, refused, first_failing}
 use Rattle.sheet.specs.ReadSheet as sheet
 use Rattle.words.proofs.Words.{step_on, step_end}
 use Rattle.sheet.proofs.FirstFault.{step_refuses}

@@ -1,5 +1,5 @@
 -- Every sheet that is kept is sound: each fact comes out of the truncated invariant by itself. Assumes nothing.
-use Rattle.std.proofs.Common.{◌≡◌, ℕ, zero, suc, ◌+◌, ◌^◌, ◌<◌, ◌≤◌, ◌≢◌, List, [], ◌∷◌, map, length, get_or, sym, refl, ap, ◌∙◌, subst, le_of_suc-le-suc, not-suc-le-zero, arith}
+use Rattle.std.proofs.Common.{◌≡◌, ℕ, zero, suc, ◌+◌, ◌<◌, ◌≤◌, ◌≢◌, List, [], ◌∷◌, map, length, get_or, sym, refl, ap, ◌∙◌, subst, le_of_suc-le-suc, not-suc-le-zero, arith}
 use mathlib.Core.Logic.{∥∥₁_elim}
 use mathlib.Core.HLevel.{⊥_prop}
 use native.Mathlib.Bridge.{le_prop}
@@ -7,9 +7,9 @@ use Rattle.std.specs.List.{AllByRecursion as All}
 use Rattle.std.proofs.ByRecursion.{All-get_or, All-from_get_or}
 use Rattle.sheet.specs.declared.parts.Loop.{Loop as Header}
 use Rattle.sheet.specs.declared.parts.BackEdge.{BackEdge}
-use Rattle.sheet.specs.Sheet.{Sheet, LBlock, Edge, Fact, Loop, no_lblock, lblock, WellFormed}
+use Rattle.sheet.specs.Sheet.{LBlock, Edge, Fact, Loop, WellFormed}
 use Rattle.sheet.specs.SheetWords.{Distinct, LBlockFits, EdgeFits, FactFits, LoopFits}
-use Rattle.sheet.specs.BlockTable.{first_of, size_of, count_of, Holds, Table}
+use Rattle.sheet.specs.BlockTable.{first_of, size_of, Table}
 use Rattle.sheet.specs.Drafts.{Items, sheet_of, loop_of, loops_from}
 use Rattle.sheet.specs.Traversal.{no_edge}
 use Rattle.sheet.specs.Kept.{Kept}

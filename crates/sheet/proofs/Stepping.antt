@@ -1,6 +1,6 @@
 -- For code: a turn of the reader's loop, and what it comes to at the end. Assumes nothing.
-use Rattle.std.proofs.Common.{◌≡◌, ℕ, zero, suc, ◌+◌, ◌<◌, ◌≤◌, Bool, true, false, ◌⊎◌, List, [], ◌∷◌, length, get_or, drop, Some, None, Ok, Err, Option as Maybe, Result, sym, refl, ap, ◌∙◌, subst, ⊎_elim, arith}
-use mathlib.Core.Option.{none, some}
+use Rattle.std.proofs.Common.{◌≡◌, ℕ, ◌+◌, ◌<◌, ◌≤◌, true, List, length, get_or, drop, Some, None, Ok, Err, Option as Maybe, Result, sym, refl, ap, ◌∙◌, subst, arith}
+use mathlib.Core.Option.{none}
 use Rattle.std.proofs.lemmas.List.{drop_all}
 use Rattle.std.specs.List.{AllByRecursion as All}
 use Rattle.std.proofs.lemmas.Bool.{false≢true}
@@ -11,8 +11,7 @@ use Rattle.sheet.specs.declared.fault.SheetFault.{SheetFault}
 use Rattle.sheet.specs.declared.section.Section.{Section}
 use Rattle.sheet.specs.declared.section.Section.TheVariants.{Head, First, LBlocks, Blocks, Edges, Loop, Facts}
 use Rattle.sheet.specs.Faults.{sheet_refusal}
-use Rattle.sheet.specs.Sheet.{Sheet}
-use Rattle.sheet.specs.ReadSheet.{State, due, open_loop, checks, demands, next, finished, read_from, read_sheet, start}
+use Rattle.sheet.specs.ReadSheet.{State, due, open_loop, checks, demands, finished, read_from, read_sheet, start}
 use Rattle.sheet.specs.SheetWords.{PartsFit}
 use Rattle.sheet.specs.BlockTable.{Laid}
 use Rattle.sheet.proofs.ReadSheet.{Holds, goes, closing}

@@ -1,5 +1,5 @@
 -- For code: the items that the code holds, as the reader's state, one word after another. Assumes nothing.
-use Rattle.std.proofs.Common.{◌≡◌, ℕ, zero, suc, ◌+◌, ◌<◌, ◌≤◌, Bool, true, false, cond, not, ◌&&◌, ◌||◌, eqb, ltb, List, [], ◌∷◌, ◌++◌, map, length, get_or, take, Some, None, Ok, Err, sum_by, filter, Option as Maybe, Result, sym, refl, ap, ◌∙◌, subst, ap₂, add-zero, zero-add, arith}
+use Rattle.std.proofs.Common.{◌≡◌, ℕ, suc, ◌+◌, ◌<◌, ◌≤◌, Bool, true, false, cond, not, ◌&&◌, ◌||◌, eqb, ltb, List, [], ◌∷◌, ◌++◌, map, length, get_or, take, Some, None, Ok, sum_by, filter, Option as Maybe, Result, sym, refl, ap, ◌∙◌, subst, ap₂, add-zero, zero-add, arith}
 use mathlib.Core.Option.{Option, none, some}
 use Rattle.std.specs.List.{AllByRecursion as All}
 use Rattle.std.proofs.lemmas.List.{take_more, take_all, take_at, length_push, get_or_push, map-append, append-nil}
@@ -23,11 +23,11 @@ use Rattle.sheet.specs.ReadSheet.{loop_of as spec_loop}
 use Rattle.sheet.specs.BlockTable.{Laid}
 use Rattle.sheet.specs.declared.fault.SheetFault.{SheetFault}
 use Rattle.sheet.specs.Faults.{sheet_refusal}
-use Rattle.sheet.specs.Drafts.{Items, sheet_of, backs_of, loop_of, loops_from, add_head, add_block, add_lblock, add_edge, add_loop, add_back, add_fact}
+use Rattle.sheet.specs.Drafts.{Items, sheet_of, backs_of, loop_of, loops_from, add_head, add_block, add_edge, add_loop, add_back, add_fact}
 use Rattle.sheet.specs.Sections.{Ready, IsOpen, state_of, trial, before_loop, no_header, due_in, lacking_in, tried, Turn}
 use Rattle.sheet.specs.Tried.{whole_in, loop_checks, back_checks, fact_checks, end_checks}
 use Rattle.sheet.proofs.Drafts.{some_back}
-use Rattle.sheet.proofs.Laid.{laid_block, laid_lblock}
+use Rattle.sheet.proofs.Laid.{laid_block}
 
 -- back edges and loops, one more
 pub back_own : (bs : List BackEdge) (k s : ℕ) → backs_of (bs ++ (record { owner = k; source = s } ∷ [])) k ≡ backs_of bs k ++ (s ∷ [])

@@ -1,11 +1,10 @@
 -- The items that the code holds, as lists, and the sheet that they are. Assumes nothing.
-use Rattle.std.specs.Prelude.{ℕ, suc, ◌-◌, Bool, List, [], ◌∷◌, ◌++◌, map, length, filter, nat_eq}
+use Rattle.std.specs.Prelude.{ℕ, suc, List, [], ◌∷◌, ◌++◌, map, length, filter, nat_eq}
 use Rattle.sheet.specs.declared.parts.Block.{Block}
 use Rattle.sheet.specs.declared.parts.BackEdge.{BackEdge}
 use Rattle.sheet.specs.declared.parts.Loop.{Loop as Header}
-use Rattle.words.specs.Words.{upper, lower, i_field, j_field}
 use Rattle.sheet.specs.Sheet.{Sheet, LBlock, Edge, Loop, Fact}
-use Rattle.sheet.specs.ReadSheet.{edge_of, fact_of, lblock_of}
+use Rattle.sheet.specs.ReadSheet.{edge_of, fact_of}
 
 -- the blocks that the back edges of a loop come from, in order
 abbrev pub backs_of : List BackEdge → ℕ → List ℕ

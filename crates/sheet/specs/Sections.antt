@@ -7,8 +7,7 @@ use Rattle.sheet.specs.declared.parts.Loop.{Loop as Header}
 use Rattle.sheet.specs.declared.section.Section.{Section}
 use Rattle.sheet.specs.declared.section.Section.TheVariants.{Head, First, LBlocks, Blocks, Edges, Loop, Facts}
 use Rattle.sheet.specs.Kinds.{Kind, LBLOCK, COST, END}
-use Rattle.sheet.specs.Sheet.{Sheet}
-use Rattle.sheet.specs.ReadSheet.{Stand, at_head, at_first, at_lblock, at_blocks, at_edges, in_loop, at_facts, State, stands, due, back_words, open_loop, checks, demands, next, finished, read_from, lblock_of}
+use Rattle.sheet.specs.ReadSheet.{at_head, at_first, at_lblock, at_blocks, at_edges, in_loop, at_facts, State, stands, due, back_words, open_loop, checks, demands, next, read_from, lblock_of}
 use Rattle.sheet.specs.declared.fault.SheetFault.{SheetFault}
 use Rattle.sheet.specs.Faults.{sheet_refusal}
 use Rattle.sheet.specs.BlockTable.{Laid}

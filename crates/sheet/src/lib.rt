@@ -1,4 +1,6 @@
 // A task's timing sheet: its blocks, l-blocks, edges, loops and facts, read from words, and the conflict edges of each cache set.
+#![tactic(auto)]
+
 mod draft;
 pub mod fault;
 pub mod parts;

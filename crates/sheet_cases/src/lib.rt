@@ -1,4 +1,6 @@
 // Tests of reading sheets: each refusal at its place, the limits, the drum task, and lists that are no sheets at all.
+#![tactic(auto)]
+
 #[cfg(test)]
 mod conflicts;
 #[cfg(test)]

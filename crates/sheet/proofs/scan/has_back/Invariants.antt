@@ -1,6 +1,5 @@
-use Rattle.std.proofs.Common.{◌≡◌, false, not, ◌&&◌, eqb, take}
+use Rattle.std.proofs.Common.{◌≡◌, false, ◌&&◌, eqb, take}
 use Rattle.words.specs.Lists.{any}
-use Rattle.sheet.specs.Drafts.{backs_of}
 use Rattle.sheet.proofs.scan.has_back.Given as goal
 
 abbrev pub invariant-loop-b : goal.invariant-loop-b

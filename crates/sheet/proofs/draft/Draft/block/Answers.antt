@@ -1,11 +1,9 @@
-use Rattle.std.proofs.Common.{◌+◌, [], drop, Some, None, Ok, sym, ◌∙◌}
-use Rattle.std.proofs.lemmas.Result.{err_from_is_err_and}
-use Rattle.sheet.specs.declared.section.Section.TheVariants.{First, LBlocks, Edges, Loop, Facts}
-use Rattle.words.specs.Words.{upper, lower}
+use Rattle.std.proofs.Common.{[], Some, Ok, sym, ◌∙◌}
+use Rattle.sheet.specs.declared.section.Section.TheVariants.{LBlocks}
 use Rattle.sheet.specs.Kinds.{BLOCK}
-use Rattle.sheet.specs.Drafts.{add_head, add_block, add_edge, add_loop, add_back, add_fact}
+use Rattle.sheet.specs.Drafts.{add_block}
 use Rattle.sheet.specs.Tried.{items_of}
-use Rattle.sheet.proofs.Turns.{moved, broke, block_turn}
+use Rattle.sheet.proofs.Turns.{moved, block_turn}
 use Rattle.sheet.proofs.draft.Draft.block.Goals as goal
 
 pub returns : goal.returns

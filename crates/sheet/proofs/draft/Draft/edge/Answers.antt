@@ -1,9 +1,8 @@
-use Rattle.std.proofs.Common.{◌+◌, [], drop, Some, None, Ok, sym, ◌∙◌}
+use Rattle.std.proofs.Common.{[], Some, Ok, sym, ◌∙◌}
 use Rattle.std.proofs.lemmas.Result.{err_from_is_err_and}
-use Rattle.sheet.specs.declared.section.Section.TheVariants.{First, LBlocks, Edges, Loop, Facts}
-use Rattle.words.specs.Words.{upper, lower}
+use Rattle.sheet.specs.declared.section.Section.TheVariants.{Edges}
 use Rattle.sheet.specs.Kinds.{EDGE}
-use Rattle.sheet.specs.Drafts.{add_head, add_block, add_edge, add_loop, add_back, add_fact}
+use Rattle.sheet.specs.Drafts.{add_edge}
 use Rattle.sheet.specs.Tried.{items_of}
 use Rattle.sheet.proofs.Turns.{moved, broke, edge_turn, edge_trial}
 use Rattle.sheet.proofs.draft.Draft.edge.Goals as goal

@@ -1,11 +1,9 @@
-use Rattle.std.proofs.Common.{◌+◌, [], drop, Some, None, Ok, sym, ◌∙◌}
-use Rattle.std.proofs.lemmas.Result.{err_from_is_err_and}
-use Rattle.sheet.specs.declared.section.Section.TheVariants.{First, LBlocks, Edges, Loop, Facts}
-use Rattle.words.specs.Words.{upper, lower}
+use Rattle.std.proofs.Common.{[], Some, Ok, sym, ◌∙◌}
+use Rattle.sheet.specs.declared.section.Section.TheVariants.{First}
 use Rattle.sheet.specs.Kinds.{HEAD}
-use Rattle.sheet.specs.Drafts.{add_head, add_block, add_edge, add_loop, add_back, add_fact}
+use Rattle.sheet.specs.Drafts.{add_head}
 use Rattle.sheet.specs.Tried.{items_of}
-use Rattle.sheet.proofs.Turns.{moved, broke, head_turn}
+use Rattle.sheet.proofs.Turns.{moved, head_turn}
 use Rattle.sheet.proofs.draft.Draft.head.Goals as goal
 
 pub returns : goal.returns

@@ -1,4 +1,4 @@
-use Rattle.std.proofs.Common.{◌-◌, length, drop, sym, refl, ap, ◌∙◌, arith, length-drop, length-take, rules, ltb-false, ltb-true}
+use Rattle.std.proofs.Common.{◌-◌, length, drop, refl, ap, arith, length-drop, length-take, ltb-false, ltb-true}
 use Rattle.std.proofs.lemmas.Result.{err_from_is_err_and}
 use Rattle.sheet.specs.Tried.{items_of}
 use Rattle.sheet.proofs.Pairs.{pair_went, pair_fails, cut_fails}

@@ -1,4 +1,4 @@
-use Rattle.std.proofs.Common.{◌≡◌, ◌-◌, ◌≤◌, length}
+use Rattle.std.proofs.Common.{◌≡◌, ◌-◌, length}
 use Rattle.sheet.specs.ReadSheet.{start}
 use Rattle.sheet.specs.Sections.{Goes, Ready, state_of}
 use Rattle.sheet.specs.Tried.{items_of}
