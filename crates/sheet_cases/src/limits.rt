@@ -3,7 +3,6 @@ use crate::list::*;
 use crate::outcome::{accepted, drum_room, refused};
 use sheet::room::SheetRoom;
 use std::alloc::AllocError;
-use std::process::Abort;
 use std::test::Fail;
 
 // Three edges into each of the blocks 1 to 32: from block 0, from itself and from block 33.
@@ -43,7 +42,6 @@ fn facts(list: &mut Vec<u32>) -> Result<(), AllocError> {
 
 // The list with each of these words after it, which is refused with the number given, at that word.
 fn all_refused_next(
-    rt: &impl Abort,
     room: &mut SheetRoom,
     list: &mut Vec<u32>,
     cases: &[(u32, u8)],
@@ -51,63 +49,57 @@ fn all_refused_next(
     let place = list.len();
     for (word, number) in cases {
         list.push(*word)?;
-        refused(rt, room, list.as_slice(), *number, place)?;
+        refused(room, list.as_slice(), *number, place)?;
         list.truncate(place);
     }
     Ok(())
 }
 
 // 128 blocks and 512 edges; one more of either is refused, with a lower number if it has another fault of a lower number.
-fn most_edges(rt: &impl Abort, room: &mut SheetRoom, list: &mut Vec<u32>) -> Result<(), Fail> {
+fn most_edges(room: &mut SheetRoom, list: &mut Vec<u32>) -> Result<(), Fail> {
     blocks(list, 128, &[0, 1, 2, 3])?;
-    all_refused_next(rt, room, list, &[(BLOCK, 4), (BLOCK | 1, 5)])?;
+    all_refused_next(room, list, &[(BLOCK, 4), (BLOCK | 1, 5)])?;
     loop_edges(list)?;
     other_edges(list)?;
-    all_refused_next(rt, room, list, &[(EDGE | 126 << 14 | 1, 5), (EDGE, 5)])
+    all_refused_next(room, list, &[(EDGE | 126 << 14 | 1, 5), (EDGE, 5)])
 }
 
 // 32 loops, 64 BACK words and 32 facts. The last loop is first tried without BACK.
-fn most_loops(rt: &impl Abort, room: &mut SheetRoom, list: &mut Vec<u32>) -> Result<(), Fail> {
+fn most_loops(room: &mut SheetRoom, list: &mut Vec<u32>) -> Result<(), Fail> {
     loops(list, 1..32)?;
     list.push(LOOP | 32 << 14)?;
-    all_refused_next(rt, room, list, &[(FACT, 7), (LOOP | 33 << 14, 5)])?;
+    all_refused_next(room, list, &[(FACT, 7), (LOOP | 33 << 14, 5)])?;
     list.push(BACK | 32)?;
     list.push(BACK | 33)?;
     all_refused_next(
-        rt,
         room,
         list,
         &[(BACK, 5), (BACK | 33, 5), (LOOP | 33 << 14, 5)],
     )?;
     facts(list)?;
-    all_refused_next(rt, room, list, &[(FACT | 1 << 14, 5), (FACT, 5)])
+    all_refused_next(room, list, &[(FACT | 1 << 14, 5), (FACT, 5)])
 }
 
 #[test]
 fn the_largest_sheet(rt: HostRuntime) -> Result<(), Fail> {
-    let mut room = drum_room(&rt, rt.alloc())?;
+    let mut room = drum_room(rt.alloc())?;
     let mut list = [HEAD | 4].to_vec(rt.alloc())?;
-    most_edges(&rt, &mut room, &mut list)?;
-    most_loops(&rt, &mut room, &mut list)?;
+    most_edges(&mut room, &mut list)?;
+    most_loops(&mut room, &mut list)?;
     end(&mut list)?;
     assert_eq!(rt; list.len(), 1794);
-    accepted(&rt, &mut room, list.as_slice())
+    accepted(&mut room, list.as_slice())
 }
 
 // 512 l-blocks in blocks of 16, and one more.
 #[test]
 fn one_lblock_too_many(rt: HostRuntime) -> Result<(), Fail> {
-    let mut room = drum_room(&rt, rt.alloc())?;
+    let mut room = drum_room(rt.alloc())?;
     let mut list = [HEAD | 1].to_vec(rt.alloc())?;
     blocks(&mut list, 32, &[0; 16])?;
     list.push(BLOCK | 1)?;
-    all_refused_next(
-        &rt,
-        &mut room,
-        &mut list,
-        &[(LBLOCK | 1 << 20, 4), (LBLOCK, 5)],
-    )?;
+    all_refused_next(&mut room, &mut list, &[(LBLOCK | 1 << 20, 4), (LBLOCK, 5)])?;
     list.pop();
     end(&mut list)?;
-    accepted(&rt, &mut room, list.as_slice())
+    accepted(&mut room, list.as_slice())
 }

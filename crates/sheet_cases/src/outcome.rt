@@ -2,14 +2,13 @@
 use crate::drum::{DRUM, is_drum};
 use sheet::room::SheetRoom;
 use std::alloc::Global;
-use std::process::Abort;
 use std::test::Fail;
 use words::refusal::{Layer, Refusal, Refuse};
 
 // A room that holds the drum task's sheet.
-pub fn drum_room(rt: &impl Abort, heap: Global) -> Result<SheetRoom, Fail> {
+pub fn drum_room(heap: Global) -> Result<SheetRoom, Fail> {
     let mut room = SheetRoom::reserve(heap)?;
-    accepted(rt, &mut room, &DRUM)?;
+    accepted(&mut room, &DRUM)?;
     Ok(room)
 }
 
@@ -21,19 +20,23 @@ pub fn refusal(room: &mut SheetRoom, list: &[u32]) -> Option<Refusal> {
     }
 }
 
-pub fn accepted(rt: &impl Abort, room: &mut SheetRoom, list: &[u32]) -> Result<(), Fail> {
-    assert_eq!(rt; refusal(room, list), None);
+// Fails unless that is what reading the list answers.
+fn answers(room: &mut SheetRoom, list: &[u32], expected: Option<Refusal>) -> Result<(), Fail> {
+    let answer = refusal(room, list);
+    if answer != expected {
+        let n = list.len();
+        return Err(Fail::new(format_args!("a list of {n} words: {answer:?} and not {expected:?}")));
+    }
     Ok(())
 }
 
-// The list is refused so, and the room holds the drum task's sheet as before. Numbers 1 to 4 are of the layer of words.
-pub fn refused(
-    rt: &impl Abort,
-    room: &mut SheetRoom,
-    list: &[u32],
-    number: u8,
-    place: usize,
-) -> Result<(), Fail> {
+// Fails unless the list is accepted.
+pub fn accepted(room: &mut SheetRoom, list: &[u32]) -> Result<(), Fail> {
+    answers(room, list, None)
+}
+
+// Fails unless the list is refused so, and the room holds the drum task's sheet as before. Numbers 1 to 4 are of the layer of words.
+pub fn refused(room: &mut SheetRoom, list: &[u32], number: u8, place: usize) -> Result<(), Fail> {
     let layer = if number <= 4 {
         Layer::Words
     } else {
@@ -44,7 +47,9 @@ pub fn refused(
         place,
         layer,
     };
-    assert_eq!(rt; refusal(room, list), Some(expected));
-    assert!(rt; is_drum(room.sheet()), "the sheet that was held stays");
+    answers(room, list, Some(expected))?;
+    if !is_drum(room.sheet()) {
+        return Err(Fail::new("the sheet that was held is lost"));
+    }
     Ok(())
 }

@@ -4,7 +4,6 @@ use crate::list::*;
 use crate::outcome::{accepted, drum_room, refused};
 use sheet::room::SheetRoom;
 use std::alloc::Global;
-use std::process::Abort;
 use std::test::Fail;
 
 // A list that is refused: its words after some first words, the refusal's number and its place.
@@ -180,49 +179,43 @@ fn joined(heap: Global, first: &[u32], rest: &[u32]) -> Result<Vec<u32>, Fail> {
     Ok(list)
 }
 
-fn all_refused(rt: &impl Abort, heap: Global, first: &[u32], cases: &[Case]) -> Result<(), Fail> {
-    let mut room = drum_room(rt, heap)?;
-    for (i, Case(rest, number, place)) in cases.iter().enumerate() {
+fn all_refused(heap: Global, first: &[u32], cases: &[Case]) -> Result<(), Fail> {
+    let mut room = drum_room(heap)?;
+    for Case(rest, number, place) in cases {
         let list = joined(heap, first, rest)?;
-        refused(rt, &mut room, list.as_slice(), *number, *place).note(format_args!("case {i}"))?;
+        refused(&mut room, list.as_slice(), *number, *place)?;
     }
     Ok(())
 }
 
-fn all_accepted(
-    rt: &impl Abort,
-    heap: Global,
-    first: &[u32],
-    lists: &[&[u32]],
-) -> Result<(), Fail> {
+fn all_accepted(heap: Global, first: &[u32], lists: &[&[u32]]) -> Result<(), Fail> {
     let mut room = SheetRoom::reserve(heap)?;
-    for (i, rest) in lists.iter().enumerate() {
+    for rest in lists {
         let list = joined(heap, first, rest)?;
-        accepted(rt, &mut room, list.as_slice()).note(format_args!("list {i}"))?;
+        accepted(&mut room, list.as_slice())?;
     }
     Ok(())
 }
 
 #[test]
 fn words_are_refused_at_their_place(rt: HostRuntime) -> Result<(), Fail> {
-    all_refused(&rt, rt.alloc(), &[], &FIRST).note("from the first word on")?;
-    all_refused(&rt, rt.alloc(), &TOP, &AFTER_BLOCK).note("after a block")
+    all_refused(rt.alloc(), &[], &FIRST)?;
+    all_refused(rt.alloc(), &TOP, &AFTER_BLOCK)
 }
 
 #[test]
 fn items_are_refused_at_their_place(rt: HostRuntime) -> Result<(), Fail> {
-    all_refused(&rt, rt.alloc(), &DRUM[0..10], &EDGES).note("edges")?;
-    all_refused(&rt, rt.alloc(), &DRUM[0..10], &LOOPS).note("loops and facts")
+    all_refused(rt.alloc(), &DRUM[0..10], &EDGES)?;
+    all_refused(rt.alloc(), &DRUM[0..10], &LOOPS)
 }
 
 #[test]
 fn fields_at_their_limits_are_accepted(rt: HostRuntime) -> Result<(), Fail> {
     all_accepted(
-        &rt,
         rt.alloc(),
         &[HEAD | 1, BLOCK | 1, LBLOCK, COST],
         &[&[END | 4]],
     )?;
-    all_accepted(&rt, rt.alloc(), &TOP, &[&[END | 4]])?;
-    all_accepted(&rt, rt.alloc(), &DRUM[0..10], &ACCEPTED)
+    all_accepted(rt.alloc(), &TOP, &[&[END | 4]])?;
+    all_accepted(rt.alloc(), &DRUM[0..10], &ACCEPTED)
 }

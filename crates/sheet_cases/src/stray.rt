@@ -22,11 +22,11 @@ const FILLED: [Case; 5] = [
 
 #[test]
 fn long_lists_without_end(rt: HostRuntime) -> Result<(), Fail> {
-    let mut room = drum_room(&rt, rt.alloc())?;
+    let mut room = drum_room(rt.alloc())?;
     for Case(first, word, number, place) in &FILLED {
         let mut list = first.to_vec(rt.alloc())?;
         list.resize(4096, *word)?;
-        refused(&rt, &mut room, list.as_slice(), *number, *place)?;
+        refused(&mut room, list.as_slice(), *number, *place)?;
     }
     Ok(())
 }
@@ -41,7 +41,7 @@ fn stirred(word: u32) -> u32 {
 // Up to 15 words of the drum task, then up to 4 words without order.
 #[test]
 fn words_without_order(rt: HostRuntime) -> Result<(), Fail> {
-    let mut room = drum_room(&rt, rt.alloc())?;
+    let mut room = drum_room(rt.alloc())?;
     let mut word = 2463534242;
     for i in 0..400usize {
         let mut list = DRUM[0..i % 16].to_vec(rt.alloc())?;
