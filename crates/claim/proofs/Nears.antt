@@ -1,6 +1,6 @@
 -- Amounts near nothing: their sums and products fit 64 signed bits. Assumes nothing.
 use Rattle.std.proofs.Common.{◌≡◌, ℕ, suc, ◌+◌, ◌*◌, ◌^◌, ◌<◌, ◌≤◌, Bool, true, false, ℤ, pos, negsuc, ◌+ℤ◌, ◌-ℤ◌, ◌*ℤ◌, neg_ℤ, ◌≤ℤ◌, sym, refl, ap, ◌∙◌, subst, arith, w64, SFits}
-use lib.IntN.{pos_*ℤ_pos, negsuc_*ℤ_pos}
+use lib.IntN.{pos-*ℤ-pos, negsuc-*ℤ-pos}
 use Rattle.std.proofs.lemmas.Nat.{mul-le}
 use Rattle.std.proofs.lemmas.Int.{ints}
 use Rattle.sheet.specs.Rows.{one_if}
@@ -29,8 +29,8 @@ pub near_times : (m n k : ℕ) (y : ℤ) → k ≤ n → Near m y → Near (m * 
 near_times m n k (pos a) l h =
     let b : a ≤ m = omega (arith, ints, h.1) in
     let c : a * k ≤ m * n = mul-le a k m n b l in
-    subst (Near (m * n)) (sym (pos_*ℤ_pos a k)) (omega (arith, ints), omega (arith, ints))
+    subst (Near (m * n)) (sym (pos-*ℤ-pos a k)) (omega (arith, ints), omega (arith, ints))
 near_times m n k (negsuc a) l h =
     let b : suc a ≤ m = omega (arith, ints, h.0) in
     let c : suc a * k ≤ m * n = mul-le (suc a) k m n b l in
-    subst (Near (m * n)) (sym (negsuc_*ℤ_pos a k)) (omega (arith, ints), omega (arith, ints))
+    subst (Near (m * n)) (sym (negsuc-*ℤ-pos a k)) (omega (arith, ints), omega (arith, ints))

@@ -16,8 +16,8 @@ returns-then-row-blocks-2 c =
     let e = ap length c.blocks-blocks.ensures.listed in
     sym (at_bounded (view c.args.sheet.now) c.args.row (in_row 0) (omega (arith, c.if-row-blocks.false, e)) (omega (arith, c.if-row-blocks-2.true, e, ap length c.loops.ensures, ap length c.facts.ensures, length-loops I.backs 0 I.loops)))
 
-pub overflow-sub-result : goal.overflow-sub-result
-overflow-sub-result c = omega (arith, c.rows.ensures, rows_are (items c.args.sheet.now), ap length c.lblocks.ensures)
+pub overflow_sub-result : goal.overflow_sub-result
+overflow_sub-result c = omega (arith, c.rows.ensures, rows_are (items c.args.sheet.now), ap length c.lblocks.ensures)
 
 pub returns : goal.returns
 returns c =

@@ -5,50 +5,50 @@ use Rattle.claim.proofs.certificate.read.read_claim.Goals as goal
 
 pub returns-then-minus : goal.returns-then-minus
 returns-then-minus c =
-    let t = c.in-ok-high.ensures.read in
-    let s = ap (λ x. x.now) c.in-ok-high.ensures.same in
+    let t = c.in_ok-high.ensures.read in
+    let s = ap (λ x. x.now) c.in_ok-high.ensures.same in
     let ws = c.args.reader.now.words.now in
-    let us = c.read-high.new.reader.words.now in
+    let us = c.read_high.new.reader.words.now in
     let i = c.args.reader.now.at in
-    let k = c.read-high.new.reader.at in
-    let x = c.in-ok-high.high.0 in
+    let k = c.read_high.new.reader.at in
+    let x = c.in_ok-high.high.0 in
     record {
-      same = c.in-ok-high.ensures.same;
+      same = c.in_ok-high.ensures.same;
       read = claim_refused ws us s i k x t.0 t.1 t.2 t.3 t.4 (sym c.if-minus.ensures) c.place-at.result c.place-at.ensures;
     }
 
-pub returns-in-err-low : goal.returns-in-err-low
-returns-in-err-low c =
-    let p = err_from_is_err_and c.from-residual-in-err-low.result c.from-residual-in-err-low.ensures.1 in
-    let t = c.in-ok-high.ensures.read in
-    let s = ap (λ x. x.now) c.in-ok-high.ensures.same in
+pub returns-in_err-low : goal.returns-in_err-low
+returns-in_err-low c =
+    let p = err_from_is_err_and c.from_residual-in_err-low.result c.from_residual-in_err-low.ensures.1 in
+    let t = c.in_ok-high.ensures.read in
+    let s = ap (λ x. x.now) c.in_ok-high.ensures.same in
     let ws = c.args.reader.now.words.now in
-    let us = c.read-high.new.reader.words.now in
+    let us = c.read_high.new.reader.words.now in
     let i = c.args.reader.now.at in
-    let k = c.read-high.new.reader.at in
-    let x = c.in-ok-high.high.0 in
+    let k = c.read_high.new.reader.at in
+    let x = c.in_ok-high.high.0 in
     rw (p.1, p.2)
     (record {
-      same = c.in-err-low.ensures.same ∙ c.in-ok-high.ensures.same;
-      read = claim_broken ws us s i k x t.0 t.1 t.2 t.3 t.4 (sym c.if-minus.ensures) c.in-err-low.field-0.0 c.in-err-low.ensures.takes.0;
+      same = c.in_err-low.ensures.same ∙ c.in_ok-high.ensures.same;
+      read = claim_broken ws us s i k x t.0 t.1 t.2 t.3 t.4 (sym c.if-minus.ensures) c.in_err-low.field-0.0 c.in_err-low.ensures.takes.0;
     })
 
 pub returns : goal.returns
 returns c =
-    let t = c.in-ok-high.ensures.read in
-    let s = ap (λ x. x.now) c.in-ok-high.ensures.same in
+    let t = c.in_ok-high.ensures.read in
+    let s = ap (λ x. x.now) c.in_ok-high.ensures.same in
     let ws = c.args.reader.now.words.now in
-    let us = c.read-high.new.reader.words.now in
+    let us = c.read_high.new.reader.words.now in
     let i = c.args.reader.now.at in
-    let k = c.read-high.new.reader.at in
-    let x = c.in-ok-high.high.0 in
-    let l = c.in-ok-low.ensures.takes in
-    let n = pair_ends ws us s i k x t.0 t.1 t.2 t.3 t.4 c.in-ok-low.low.payload.0 c.magnitude.result c.due.new.self.at l.0 l.1 l.2.1 c.magnitude.ensures l.3 in
+    let k = c.read_high.new.reader.at in
+    let x = c.in_ok-high.high.0 in
+    let l = c.in_ok-low.ensures.takes in
+    let n = pair_ends ws us s i k x t.0 t.1 t.2 t.3 t.4 c.in_ok-low.low.payload.0 c.magnitude.result c.due.new.self.at l.0 l.1 l.2.1 c.magnitude.ensures l.3 in
     record {
-      same = c.in-ok-low.ensures.same ∙ c.in-ok-high.ensures.same;
+      same = c.in_ok-low.ensures.same ∙ c.in_ok-high.ensures.same;
       read = (
-        claim_read ws us s i k x t.0 t.1 t.2 t.3 t.4 c.in-ok-low.low.payload.0 c.magnitude.result c.due.new.self.at l.0 l.1 l.2.1 c.magnitude.ensures (sym c.if-minus.ensures) l.3,
-        claim_below ws us s i k x t.0 t.1 t.2 t.3 t.4 c.in-ok-low.low.payload.0 c.magnitude.result c.due.new.self.at l.0 l.1 l.2.1 c.magnitude.ensures,
+        claim_read ws us s i k x t.0 t.1 t.2 t.3 t.4 c.in_ok-low.low.payload.0 c.magnitude.result c.due.new.self.at l.0 l.1 l.2.1 c.magnitude.ensures (sym c.if-minus.ensures) l.3,
+        claim_below ws us s i k x t.0 t.1 t.2 t.3 t.4 c.in_ok-low.low.payload.0 c.magnitude.result c.due.new.self.at l.0 l.1 l.2.1 c.magnitude.ensures,
         n.0,
         n.1,
       );

@@ -6,37 +6,37 @@ use Rattle.claim.proofs.Turns.{cut}
 use Rattle.claim.proofs.Reading.{high_cut, high_ends, high_not_due, high_unused}
 use Rattle.claim.proofs.certificate.read.read_high.Goals as goal
 
-pub returns-in-err-word : goal.returns-in-err-word
-returns-in-err-word c =
-    let p = err_from_is_err_and c.from-residual.result c.from-residual.ensures.1 in
+pub returns-in_err-word : goal.returns-in_err-word
+returns-in_err-word c =
+    let p = err_from_is_err_and c.from_residual.result c.from_residual.ensures.1 in
     rw (p.1, p.2)
     (record {
-      same = c.in-err-word.ensures.same;
-      read = λ d C _ _. high_cut c.args.reader.now.words.now c.args.reader.now.at (stands d C) c.in-err-word.field-0.0 c.in-err-word.ensures.takes.0 c.in-err-word.ensures.takes.1;
+      same = c.in_err-word.ensures.same;
+      read = λ d C _ _. high_cut c.args.reader.now.words.now c.args.reader.now.at (stands d C) c.in_err-word.field-0.0 c.in_err-word.ensures.takes.0 c.in_err-word.ensures.takes.1;
     })
 
 pub returns-in-End : goal.returns-in-End
 returns-in-End c =
-    let t = c.in-ok-word.ensures.takes in
+    let t = c.in_ok-word.ensures.takes in
     record {
-      same = c.in-ok-word.ensures.same;
+      same = c.in_ok-word.ensures.same;
       read = λ d C u b. high_ends c.args.reader.now.words.now c.args.reader.now.at d C u b t.0 (sym t.1.0 ∙ c.in-End.is) ∙ ap (λ a. refused (refusal wrong_pairs a)) (sym c.place-at.ensures);
     }
 
-pub returns-in-default : goal.returns-in-default
-returns-in-default c =
-    let t = c.in-ok-word.ensures.takes in
+pub returns-in_default : goal.returns-in_default
+returns-in_default c =
+    let t = c.in_ok-word.ensures.takes in
     record {
-      same = c.in-ok-word.ensures.same;
-      read = λ d C u b. high_not_due c.args.reader.now.words.now c.args.reader.now.at d C u b t.0 (λ e. c.in-default.not-High (t.1.0 ∙ e)) (λ e. c.in-default.not-End (t.1.0 ∙ e))
+      same = c.in_ok-word.ensures.same;
+      read = λ d C u b. high_not_due c.args.reader.now.words.now c.args.reader.now.at d C u b t.0 (λ e. c.in_default.not-High (t.1.0 ∙ e)) (λ e. c.in_default.not-End (t.1.0 ∙ e))
           ∙ ap (λ a. refused (refusal not_due a)) (sym c.place-at.ensures);
     }
 
 pub returns-then-unused-ne0 : goal.returns-then-unused-ne0
 returns-then-unused-ne0 c =
-    let t = c.in-ok-word.ensures.takes in
+    let t = c.in_ok-word.ensures.takes in
     record {
-      same = c.in-ok-word.ensures.same;
+      same = c.in_ok-word.ensures.same;
       read = λ d C u b. high_unused c.args.reader.now.words.now c.args.reader.now.at d C u b t.0 (sym t.1.0 ∙ c.in-High.is) (λ e. c.if-unused-ne0.true (c.unused.ensures ∙ ap unused_bits t.1.1 ∙ e))
           ∙ ap (λ a. refused (refusal wrong_sign a)) (sym c.place-at.ensures);
     }

@@ -8,8 +8,8 @@ use Rattle.claim.proofs.Blocks.{block_inside, block_seen}
 use Rattle.claim.proofs.Facts.{nothing}
 use Rattle.claim.proofs.column.block.block_covered.Goals as goal
 
-pub block-cost-cost-requires : goal.block-cost-cost-requires
-block-cost-cost-requires c =
+pub block_cost-cost-requires : goal.block_cost-cost-requires
+block_cost-cost-requires c =
     let s = c.blocks-blocks.ensures.sound in
     let e = c.blocks-blocks.ensures.listed in
     let q = c.lblocks.ensures in
@@ -20,8 +20,8 @@ block-cost-cost-requires c =
       cheap = λ n d h. subst (λ vs. ((get_or vs n d).hit < 2 ^ 14) × ((get_or vs n d).extra < 2 ^ 14)) (sym q) (s.lblocks_fit n d (subst (λ vs. n < length vs) q h));
     }
 
-pub block-total-requires : goal.block-total-requires
-block-total-requires c =
+pub block_total-requires : goal.block_total-requires
+block_total-requires c =
     let R = c.args.rows.now in
     let z = c.requires.sized in
     let e = c.blocks-blocks.ensures.listed in
@@ -37,7 +37,7 @@ block-total-requires c =
     }
 
 pub reaches-requires : goal.reaches-requires
-reaches-requires c = record { product = omega (arith, mul-lt c.block-cost-cost.result.0 c.args.scale.0 (2 ^ 24) (2 ^ 20) (omega (arith, c.block-cost-cost.ensures.small)) c.requires.scale.1); scale = c.requires.scale.0 }
+reaches-requires c = record { product = omega (arith, mul-lt c.block_cost-cost.result.0 c.args.scale.0 (2 ^ 24) (2 ^ 20) (omega (arith, c.block_cost-cost.ensures.small)) c.requires.scale.1); scale = c.requires.scale.0 }
 
 pub returns : goal.returns
 returns c =
@@ -49,5 +49,5 @@ returns c =
     let h : b < length bs = omega (arith, c.requires.inside, ap length e) in
     c.reaches.ensures
     ∙ sym (block_seen I s bs e b h (weights c.args.rows.now) c.requires.sized c.lblocks.result.now I.facts c.lblocks.ensures refl c.args.scale.0
-    (get_or c.args.shares.now b nothing).0 c.block-total.result.0 (pos (c.block-cost-cost.result.0 * c.args.scale.0)) c.block-cost-cost.result.0
-    (c.requires.shares b nothing (block_inside I s bs e b h).2) (c.block-total.ensures nothing) c.block-cost-cost.ensures.cost refl)
+    (get_or c.args.shares.now b nothing).0 c.block_total.result.0 (pos (c.block_cost-cost.result.0 * c.args.scale.0)) c.block_cost-cost.result.0
+    (c.requires.shares b nothing (block_inside I s bs e b h).2) (c.block_total.ensures nothing) c.block_cost-cost.ensures.cost refl)

@@ -8,4 +8,4 @@ returns c =
     λ d. c.add-3.ensures
     ∙ ap₂ ◌+ℤ◌
     (c.add-2.ensures ∙ ap₂ ◌+ℤ◌ (c.add.ensures ∙ ap₂ ◌+ℤ◌ c.at.ensures.value c.at-2.ensures.value) (ap (λ x. x.0) (get_or_default c.args.shares.now c.args.b nothing d (omega (arith, c.told-shares, c.requires.small)))))
-    c.lblock-share.ensures.share
+    c.lblock_share.ensures.share

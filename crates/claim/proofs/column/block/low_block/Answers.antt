@@ -9,8 +9,8 @@ use Rattle.claim.specs.Tables.{FactTable}
 use Rattle.claim.proofs.Leading.{passed_none, passed_more, failed_at, passed_all, get_or-each, length-each}
 use Rattle.claim.proofs.column.block.low_block.Goals as goal
 
-pub fact-shares-shares-requires : goal.fact-shares-shares-requires
-fact-shares-shares-requires c =
+pub fact_shares-shares-requires : goal.fact_shares-shares-requires
+fact_shares-shares-requires c =
     let s = c.blocks-blocks.ensures.sound in
     let e = c.facts.ensures in
     record {
@@ -23,28 +23,28 @@ fact-shares-shares-requires c =
 pub loop-b-init : goal.loop-b-init
 loop-b-init c = passed_none (covered (view c.args.sheet.now) (weights c.args.rows.now) c.args.scale.0) (map N (below (view c.args.sheet.now).blocks))
 
-pub block-covered-requires : goal.block-covered-requires
-block-covered-requires c = record {
+pub block_covered-requires : goal.block_covered-requires
+block_covered-requires c = record {
   sized = c.requires.sized;
-  shares = subst (λ fs. FactTable (multipliers c.args.rows.now.facts.now) fs c.fact-shares-shares.result) c.facts.ensures c.fact-shares-shares.ensures.shares;
-  near = c.fact-shares-shares.ensures.near;
+  shares = subst (λ fs. FactTable (multipliers c.args.rows.now.facts.now) fs c.fact_shares-shares.result) c.facts.ensures c.fact_shares-shares.ensures.shares;
+  near = c.fact_shares-shares.ensures.near;
   scale = c.requires.scale;
   inside = omega (arith, c.loop-b-test.true, ap length c.blocks-blocks.ensures.listed);
 }
 
-pub returns-then-not-block-covered : goal.returns-then-not-block-covered
-returns-then-not-block-covered c =
+pub returns-then-not-block_covered : goal.returns-then-not-block_covered
+returns-then-not-block_covered c =
     let n = (view c.args.sheet.now).blocks in
     let b = c.loop-b.b in
     let l : b < n = omega (arith, c.loop-b-test.true, ap length c.blocks-blocks.ensures.listed) in
-    failed_at (covered (view c.args.sheet.now) (weights c.args.rows.now) c.args.scale.0) (map N (below n)) b (N b) c.loop-b.invariant (omega (arith, l, length-each N n)) (get_or-each N n b (N b) l) (sym c.if-not-block-covered.ensures)
+    failed_at (covered (view c.args.sheet.now) (weights c.args.rows.now) c.args.scale.0) (map N (below n)) b (N b) c.loop-b.invariant (omega (arith, l, length-each N n)) (get_or-each N n b (N b) l) (sym c.if-not-block_covered.ensures)
 
 pub loop-b-preserved : goal.loop-b-preserved
 loop-b-preserved c =
     let n = (view c.args.sheet.now).blocks in
     let b = c.loop-b.b in
     let l : b < n = omega (arith, c.loop-b-test.true, ap length c.blocks-blocks.ensures.listed) in
-    passed_more (covered (view c.args.sheet.now) (weights c.args.rows.now) c.args.scale.0) (map N (below n)) b (N b) c.loop-b.invariant (omega (arith, l, length-each N n)) (get_or-each N n b (N b) l) (sym c.if-not-block-covered.ensures)
+    passed_more (covered (view c.args.sheet.now) (weights c.args.rows.now) c.args.scale.0) (map N (below n)) b (N b) c.loop-b.invariant (omega (arith, l, length-each N n)) (get_or-each N n b (N b) l) (sym c.if-not-block_covered.ensures)
 
 pub returns : goal.returns
 returns c =

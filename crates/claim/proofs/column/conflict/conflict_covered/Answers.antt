@@ -16,8 +16,8 @@ use Rattle.claim.proofs.column.conflict.conflict_covered.Goals as goal
 abbrev no_conflict : Conflict
 no_conflict = record { set = 0; from = START; to = START }
 
-pub source-share-requires : goal.source-share-requires
-source-share-requires c =
+pub source_share-requires : goal.source_share-requires
+source_share-requires c =
     let S = view c.args.sheet.now in
     let cs = c.conflicts-conflicts.result.now in
     let k = conflict_at S cs c.conflicts-conflicts.ensures.listed c.args.p no_conflict c.requires.inside in
@@ -30,8 +30,8 @@ source-share-requires c =
       source = k.0.0;
     }
 
-pub target-share-requires : goal.target-share-requires
-target-share-requires c =
+pub target_share-requires : goal.target_share-requires
+target_share-requires c =
     let k = conflict_at (view c.args.sheet.now) c.conflicts-conflicts.result.now c.conflicts-conflicts.ensures.listed c.args.p no_conflict c.requires.inside in
     record { sized = c.requires.sized; source = k.0.0; target = k.0.1 }
 
@@ -45,4 +45,4 @@ returns c =
     let u = set_used S x (c.conflicts-conflicts.ensures.exact.sound x k.1) in
     λ d y. c.covers.ensures
     ∙ conflict_test S (weights c.args.rows.now) c.requires.sized d x (get_or (conflicts S) c.args.p y) (ap (λ cs. get_or cs c.args.p no_conflict) e ∙ get_or_default (conflicts S) c.args.p no_conflict y c.requires.inside) u.0 u.1
-    c.add-total.result.0 (c.add-total.ensures ∙ ap₂ ◌+ℤ◌ c.source-share.ensures.share c.target-share.ensures.share)
+    c.add-total.result.0 (c.add-total.ensures ∙ ap₂ ◌+ℤ◌ c.source_share.ensures.share c.target_share.ensures.share)

@@ -13,8 +13,8 @@ use Rattle.claim.proofs.column.conflict.low_conflict.Goals as goal
 abbrev no_conflict : Conflict
 no_conflict = record { set = 0; from = START; to = START }
 
-pub set-ranks-ranks-requires : goal.set-ranks-ranks-requires
-set-ranks-ranks-requires c =
+pub set_ranks-ranks-requires : goal.set_ranks-ranks-requires
+set_ranks-ranks-requires c =
     let s = c.blocks-blocks.ensures.sound.formed in
     let q = c.lblocks.ensures in
     λ n d h. let l : n < length (view c.args.sheet.now).lblocks = subst (λ vs. n < length vs) q h in
@@ -24,20 +24,20 @@ set-ranks-ranks-requires c =
 pub loop-p-init : goal.loop-p-init
 loop-p-init c = λ d. passed_none (covered (view c.args.sheet.now) (weights c.args.rows.now) d) (map P (conflicts (view c.args.sheet.now)))
 
-pub conflict-covered-requires : goal.conflict-covered-requires
-conflict-covered-requires c = record {
+pub conflict_covered-requires : goal.conflict_covered-requires
+conflict_covered-requires c = record {
   sized = c.requires;
-  ranks = subst (λ vs. RankTable vs c.set-ranks-ranks.result) c.lblocks.ensures c.set-ranks-ranks.ensures;
+  ranks = subst (λ vs. RankTable vs c.set_ranks-ranks.result) c.lblocks.ensures c.set_ranks-ranks.ensures;
   inside = omega (arith, c.loop-p-test.true, ap length c.conflicts-conflicts.ensures.listed);
 }
 
-pub returns-then-not-conflict-covered : goal.returns-then-not-conflict-covered
-returns-then-not-conflict-covered c =
+pub returns-then-not-conflict_covered : goal.returns-then-not-conflict_covered
+returns-then-not-conflict_covered c =
     let cs = conflicts (view c.args.sheet.now) in
     let p = c.loop-p.p in
     let l : p < length cs = omega (arith, c.loop-p-test.true, ap length c.conflicts-conflicts.ensures.listed) in
     λ d. failed_at (covered (view c.args.sheet.now) (weights c.args.rows.now) d) (map P cs) p (P (get_or cs p no_conflict)) (c.loop-p.invariant d) (omega (arith, l, length-map cs P)) (get_or-map P cs p no_conflict (P (get_or cs p no_conflict)) l)
-    (sym (c.conflict-covered.ensures d no_conflict) ∙ c.if-not-conflict-covered.true)
+    (sym (c.conflict_covered.ensures d no_conflict) ∙ c.if-not-conflict_covered.true)
 
 pub loop-p-preserved : goal.loop-p-preserved
 loop-p-preserved c =
@@ -45,7 +45,7 @@ loop-p-preserved c =
     let p = c.loop-p.p in
     let l : p < length cs = omega (arith, c.loop-p-test.true, ap length c.conflicts-conflicts.ensures.listed) in
     λ d. passed_more (covered (view c.args.sheet.now) (weights c.args.rows.now) d) (map P cs) p (P (get_or cs p no_conflict)) (c.loop-p.invariant d) (omega (arith, l, length-map cs P)) (get_or-map P cs p no_conflict (P (get_or cs p no_conflict)) l)
-    (sym (c.conflict-covered.ensures d no_conflict) ∙ c.if-not-conflict-covered.false)
+    (sym (c.conflict_covered.ensures d no_conflict) ∙ c.if-not-conflict_covered.false)
 
 pub returns : goal.returns
 returns c =

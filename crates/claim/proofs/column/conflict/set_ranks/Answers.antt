@@ -4,13 +4,13 @@ use Rattle.sheet.specs.Kept.{used_among}
 use Rattle.sheet.proofs.Used.{used_few}
 use Rattle.claim.proofs.Sets.{more_ranks, more_count}
 use Rattle.claim.proofs.column.conflict.set_ranks.Goals as goal
-use Rattle.claim.proofs.column.conflict.set_ranks.Goals.{then_used_set, else_used_set}
+use Rattle.claim.proofs.column.conflict.set_ranks.Goals.{then-used-set, else-used-set}
 
 pub loop-set-init : goal.loop-set-init
 loop-set-init c = (λ s h. absurd (not-suc-le-zero h), refl, refl)
 
-pub overflow-add-count : goal.overflow-add-count
-overflow-add-count c = omega (arith, c.loop-set.invariant.1, used_few c.args.lblocks.now c.loop-set.set, c.loop-set-test.true)
+pub overflow_add-count : goal.overflow_add-count
+overflow_add-count c = omega (arith, c.loop-set.invariant.1, used_few c.args.lblocks.now c.loop-set.set, c.loop-set-test.true)
 
 pub loop-set-preserved : goal.loop-set-preserved
 loop-set-preserved c =
@@ -20,8 +20,8 @@ loop-set-preserved c =
     let t = c.loop-set.ranks in
     let e : c.if-used-set.count ≡ used_among vs (n + 1) =
     elim c.if-used-set.branch [
-      | then_used_set w ↦ more_count vs n k c.if-used-set.count true true c.used-sets-used.result c.used-sets-used.ensures c.loop-set-test.true w.if-used-set.true c.loop-set.invariant.1 w.count_is
-      | else_used_set w ↦ more_count vs n k c.if-used-set.count true false c.used-sets-used.result c.used-sets-used.ensures c.loop-set-test.true w.if-used-set.false c.loop-set.invariant.1 (omega (arith, w.count_is))
+      | then-used-set w ↦ more_count vs n k c.if-used-set.count true true c.used_sets-used.result c.used_sets-used.ensures c.loop-set-test.true w.if-used-set.true c.loop-set.invariant.1 w.count-is
+      | else-used-set w ↦ more_count vs n k c.if-used-set.count true false c.used_sets-used.result c.used_sets-used.ensures c.loop-set-test.true w.if-used-set.false c.loop-set.invariant.1 (omega (arith, w.count-is))
     ] in
     (more_ranks vs n k t c.loop-set.invariant.2 c.loop-set-test.true c.loop-set.invariant.1 c.loop-set.invariant.0, e, length-set t n k ∙ c.loop-set.invariant.2)
 

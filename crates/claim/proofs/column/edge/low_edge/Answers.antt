@@ -13,21 +13,21 @@ no_edge = record { from = 0; to = 0 }
 pub loop-e-init : goal.loop-e-init
 loop-e-init c d = passed_none (covered (view c.args.sheet.now) (weights c.args.rows.now) d) (map T (view c.args.sheet.now).edges)
 
-pub edge-covered-requires : goal.edge-covered-requires
-edge-covered-requires c = record {
+pub edge_covered-requires : goal.edge_covered-requires
+edge_covered-requires c = record {
   sized = c.requires;
   headers = c.of-loops.ensures.headers;
   sources = c.of-loops.ensures.sources;
   inside = omega (arith, c.loop-e-test.true, ap length c.edges-edges.ensures);
 }
 
-pub returns-then-not-edge-covered : goal.returns-then-not-edge-covered
-returns-then-not-edge-covered c =
+pub returns-then-not-edge_covered : goal.returns-then-not-edge_covered
+returns-then-not-edge_covered c =
     let es = (view c.args.sheet.now).edges in
     let e = c.loop-e.e in
     let l : e < length es = omega (arith, c.loop-e-test.true, ap length c.edges-edges.ensures) in
     λ d. failed_at (covered (view c.args.sheet.now) (weights c.args.rows.now) d) (map T es) e (T (get_or es e no_edge)) (c.loop-e.invariant d) (omega (arith, l, length-map es T)) (get_or-map T es e no_edge (T (get_or es e no_edge)) l)
-    (sym (c.edge-covered.ensures d no_edge) ∙ c.if-not-edge-covered.true)
+    (sym (c.edge_covered.ensures d no_edge) ∙ c.if-not-edge_covered.true)
 
 pub loop-e-preserved : goal.loop-e-preserved
 loop-e-preserved c =
@@ -35,7 +35,7 @@ loop-e-preserved c =
     let e = c.loop-e.e in
     let l : e < length es = omega (arith, c.loop-e-test.true, ap length c.edges-edges.ensures) in
     λ d. passed_more (covered (view c.args.sheet.now) (weights c.args.rows.now) d) (map T es) e (T (get_or es e no_edge)) (c.loop-e.invariant d) (omega (arith, l, length-map es T)) (get_or-map T es e no_edge (T (get_or es e no_edge)) l)
-    (sym (c.edge-covered.ensures d no_edge) ∙ c.if-not-edge-covered.false)
+    (sym (c.edge_covered.ensures d no_edge) ∙ c.if-not-edge_covered.false)
 
 pub returns : goal.returns
 returns c =

@@ -9,16 +9,16 @@ use Rattle.claim.proofs.column.miss.low_miss.Goals as goal
 pub loop-v-init : goal.loop-v-init
 loop-v-init c = passed_none (covered (view c.args.sheet.now) (weights c.args.rows.now) c.args.scale.0) (map M (below (length (view c.args.sheet.now).lblocks)))
 
-pub miss-covered-requires : goal.miss-covered-requires
-miss-covered-requires c = record { sized = c.requires.sized; scale = c.requires.scale; inside = omega (arith, c.loop-v-test.true, ap length c.lblocks-lblocks.ensures) }
+pub miss_covered-requires : goal.miss_covered-requires
+miss_covered-requires c = record { sized = c.requires.sized; scale = c.requires.scale; inside = omega (arith, c.loop-v-test.true, ap length c.lblocks-lblocks.ensures) }
 
-pub returns-then-not-miss-covered : goal.returns-then-not-miss-covered
-returns-then-not-miss-covered c =
+pub returns-then-not-miss_covered : goal.returns-then-not-miss_covered
+returns-then-not-miss_covered c =
     let n = length (view c.args.sheet.now).lblocks in
     let v = c.loop-v.v in
     let l : v < n = omega (arith, c.loop-v-test.true, ap length c.lblocks-lblocks.ensures) in
     failed_at (covered (view c.args.sheet.now) (weights c.args.rows.now) c.args.scale.0) (map M (below n)) v (M v) c.loop-v.invariant (omega (arith, l, length-each M n)) (get_or-each M n v (M v) l)
-    (sym c.miss-covered.ensures ∙ c.if-not-miss-covered.true)
+    (sym c.miss_covered.ensures ∙ c.if-not-miss_covered.true)
 
 pub loop-v-preserved : goal.loop-v-preserved
 loop-v-preserved c =
@@ -26,7 +26,7 @@ loop-v-preserved c =
     let v = c.loop-v.v in
     let l : v < n = omega (arith, c.loop-v-test.true, ap length c.lblocks-lblocks.ensures) in
     passed_more (covered (view c.args.sheet.now) (weights c.args.rows.now) c.args.scale.0) (map M (below n)) v (M v) c.loop-v.invariant (omega (arith, l, length-each M n)) (get_or-each M n v (M v) l)
-    (sym c.miss-covered.ensures ∙ c.if-not-miss-covered.false)
+    (sym c.miss_covered.ensures ∙ c.if-not-miss_covered.false)
 
 pub returns : goal.returns
 returns c =

@@ -19,19 +19,19 @@ at-multiplier-requires c =
     let h = subst (HeaderAt I.loops (length I.loops) c.args.edge.to) (sym c.in-Some.ensures) (c.requires.headers c.args.edge.to None c.requires.to) in
     omega (arith, h.0, length-map c.args.rows.now.loops.now multiplier, c.requires.sized.loops, length-loops I.backs 0 I.loops)
 
-pub comes-from-requires : goal.comes-from-requires
-comes-from-requires c =
+pub comes_from-requires : goal.comes_from-requires
+comes_from-requires c =
     let I = items c.args.sheet.now in
     let h = subst (HeaderAt I.loops (length I.loops) c.args.edge.to) (sym c.in-Some.ensures) (c.requires.headers c.args.edge.to None c.requires.to) in
     (omega (arith, h.0, c.blocks-blocks.ensures.sound.few_loops), c.requires.from)
 
-pub returns-then-comes-from : goal.returns-then-comes-from
-returns-then-comes-from c =
+pub returns-then-comes_from : goal.returns-then-comes_from
+returns-then-comes_from c =
     let I = items c.args.sheet.now in
     let k = c.in-Some.number in
     let s = c.blocks-blocks.ensures.sound in
     let h = subst (HeaderAt I.loops (length I.loops) c.args.edge.to) (sym c.in-Some.ensures) (c.requires.headers c.args.edge.to None c.requires.to) in
-    let v = sym (c.requires.sources k c.args.edge.from [] (omega (arith, h.0, s.few_loops)) c.requires.from) ∙ sym c.if-comes-from.ensures in
+    let v = sym (c.requires.sources k c.args.edge.from [] (omega (arith, h.0, s.few_loops)) c.requires.from) ∙ sym c.if-comes_from.ensures in
     record {
       share = c.at-multiplier.ensures.value ∙ sym (share_back I s (multipliers c.args.rows.now.loops.now) c.args.edge no_header k h.0 (h.1 no_header) v);
       near = near_more (2 ^ 40) (2 ^ 54) c.at-multiplier.result.0 (omega arith) c.at-multiplier.ensures.near;
@@ -60,14 +60,14 @@ returns-in-None c =
     let h = subst (HeaderAt I.loops (length I.loops) c.args.edge.to) (sym c.in-None.ensures) (c.requires.headers c.args.edge.to None c.requires.to) in
     record { share = sym (share_none I c.blocks-blocks.ensures.sound (multipliers c.args.rows.now.loops.now) c.args.edge no_header h); near = near_zero (2 ^ 54) }
 
-pub returns-else-comes-from : goal.returns-else-comes-from
-returns-else-comes-from c =
+pub returns-else-comes_from : goal.returns-else-comes_from
+returns-else-comes_from c =
     let I = items c.args.sheet.now in
     let k = c.in-Some.number in
     let s = c.blocks-blocks.ensures.sound in
     let e = c.loops-loops.ensures in
     let h = subst (HeaderAt I.loops (length I.loops) c.args.edge.to) (sym c.in-Some.ensures) (c.requires.headers c.args.edge.to None c.requires.to) in
-    let v = sym (c.requires.sources k c.args.edge.from [] (omega (arith, h.0, s.few_loops)) c.requires.from) ∙ sym c.if-comes-from.ensures in
+    let v = sym (c.requires.sources k c.args.edge.from [] (omega (arith, h.0, s.few_loops)) c.requires.from) ∙ sym c.if-comes_from.ensures in
     let b : (get_or c.loops-loops.result.now k no_header).bound < 2 ^ 14 = subst (λ hs. (get_or hs k no_header).bound < 2 ^ 14) (sym e) (s.loops_fit k no_header h.0).1 in
     let n = near_times (2 ^ 40) (2 ^ 14) (get_or c.loops-loops.result.now k no_header).bound c.at-multiplier.result.0 (omega (arith, b)) c.at-multiplier.ensures.near in
     record {
