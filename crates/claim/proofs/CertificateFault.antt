@@ -1,10 +1,10 @@
 -- The laws of a certificate's refusals. Assumes nothing.
-use Rattle.std.proofs.Common.{◌≡◌, ℕ, zero, suc, ◌+◌, ◌-◌, ◌<◌, ◌≤◌, Bool, true, false, not, eqb, ◌≢◌, ◌⊎◌, List, [], ◌∷◌, ◌++◌, length, take, sym, refl, ap, ◌∙◌, subst, inl, inr, ⊎_elim, arith}
-use mathlib.Core.Option.{Option, none, some}
-use Rattle.std.specs.List.{AllByRecursion as All}
+use Rattle.std.proofs.Common.{◌≡◌, ℕ, zero, suc, ◌+◌, ◌-◌, ◌≤◌, Bool, true, false, not, eqb, ◌≢◌, ◌⊎◌, List, [], ◌∷◌, ◌++◌, length, take, sym, refl, ◌∙◌, subst, inl, inr, ⊎_elim, arith}
+use mathlib.Core.Option.{none, some}
+use Rattle.std.specs.List.{AllByRecursion}
 use Rattle.std.proofs.lemmas.Bool.{false≢true}
 use Rattle.claim.specs.Kinds.{Kind, NONE, HEAD, BLOCK, LBLOCK, COST, EDGE, LOOP, BACK, FACT, CLAIM, HIGH, LOW, START, STEP, FINISH, END, Refusal}
-use Rattle.words.specs.Words.{kind, payload, same_kind, one_of, refusal, ends_early, not_due, wrong_end, wrong_pairs, out_of_limit, wrong_sign, Answer, accepted, refused, Check, demand, first_failing}
+use Rattle.words.specs.Words.{kind, payload, same_kind, one_of, refusal, ends_early, not_due, wrong_end, wrong_pairs, out_of_limit, wrong_sign, accepted, refused, Check, demand, first_failing}
 use Rattle.words.specs.Words.{empty}
 use Rattle.claim.specs.ReadCertificate.{Stand, State, due, barred, checks, demands, next, read_from, start}
 use Rattle.claim.specs.CertificateFault.{CertificateFirstFault, CertificateCut}
@@ -27,7 +27,7 @@ record Fails (a b : Bool) (d : Stand) (k : Kind) (p i : ℕ) (rest : List ℕ) (
   at : (((r.place ≡ i) ⊎ (suc r.place ≡ i)) × ((us : List ℕ) → first_failing (firsts a b i (checks d k p i us)) ≡ some r))
       ⊎ ((r.place ≡ suc i) × (empty rest ≡ false) × ((us : List ℕ) → empty us ≡ false → first_failing (firsts a b i (checks d k p i us)) ≡ some r))
 
-here : (a b : Bool) (d : Stand) (k : Kind) (p i : ℕ) (rest : List ℕ) (r : Refusal) → All (λ c. Here i c.otherwise) (firsts a b i (checks d k p i rest))
+here : (a b : Bool) (d : Stand) (k : Kind) (p i : ℕ) (rest : List ℕ) (r : Refusal) → AllByRecursion (λ c. Here i c.otherwise) (firsts a b i (checks d k p i rest))
     → first_failing (firsts a b i (checks d k p i rest)) ≡ some r → ((us : List ℕ) → first_failing (firsts a b i (checks d k p i us)) ≡ some r) → Fails a b d k p i rest r
 here a b d k p i rest r h e all =
     let q = failing_one (Here i) (firsts a b i (checks d k p i rest)) r h e in

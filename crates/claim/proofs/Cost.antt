@@ -1,6 +1,6 @@
 -- What a walk's fetches cost: their hits, and the extra cycles of those that miss. Assumes nothing.
 use Rattle.std.proofs.Common.{◌≡◌, ℕ, ◌+◌, Bool, true, false, cond, List, [], ◌∷◌, sym, refl, ◌∙◌, ap₂, arith}
-use Rattle.std.specs.List.{AllByRecursion as All}
+use Rattle.std.specs.List.{AllByRecursion}
 use Rattle.sheet.specs.Sheet.{Sheet, lblock, fetches}
 use Rattle.claim.specs.Cache.{Residence, Costs, none, fetch, trace, cycles}
 use Rattle.sheet.specs.Rows.{cost, N}
@@ -27,10 +27,10 @@ trace_hits S (b ∷ w) =
     sum_nat_++ (λ v. (lblock S v).hit) (fetches S b) (trace S w) ∙ ap₂ ◌+◌ (sym (sum_nat_is (λ v. (lblock S v).hit) (fetches S b))) (trace_hits S w)
 
 -- only what is fetched misses
-pub missed_all : {S : Sheet} {R R' : Residence} {vs : List ℕ} {c : ℕ} (P : ℕ → Type 0) (r : Costs S R vs c R') → All P vs → All P (missed r)
+pub missed_all : {S : Sheet} {R R' : Residence} {vs : List ℕ} {c : ℕ} (P : ℕ → Type 0) (r : Costs S R vs c R') → AllByRecursion P vs → AllByRecursion P (missed r)
 missed_all P none h = tt
 missed_all P (fetch {v = v} {hit = hit} f r) h = by hit (missed_all P r h.1)
   where
-    by : (b : Bool) → All P (missed r) → All P (cond b (missed r) (v ∷ missed r))
+    by : (b : Bool) → AllByRecursion P (missed r) → AllByRecursion P (cond b (missed r) (v ∷ missed r))
     by true g = g
     by false g = (h.0, g)

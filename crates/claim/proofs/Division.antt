@@ -1,12 +1,12 @@
 -- For code: the rows of a sheet by families. Assumes nothing.
-use Rattle.std.proofs.Common.{◌≡◌, ℕ, ◌+◌, ◌*◌, List, [], ◌∷◌, ◌++◌, map, length, sym, refl, ap, ◌∙◌, ap₂, arith}
+use Rattle.std.proofs.Common.{◌≡◌, ℕ, ◌+◌, ◌*◌, List, ◌++◌, length, ap, ◌∙◌}
 use Rattle.std.proofs.lemmas.List.{map-append, append_assoc}
 use Rattle.sheet.specs.Conflict.{used_sets}
 use Rattle.sheet.specs.Drafts.{Items, sheet_of}
 use Rattle.sheet.specs.Rows.{rows}
 use Rattle.sheet.proofs.Counts.{length-rows}
 use Rattle.sheet.proofs.Sound.{length-loops}
-use Rattle.claim.specs.Parts.{multiplier, multipliers}
+use Rattle.claim.specs.Parts.{multipliers}
 
 -- how many rows there are
 pub rows_are : (I : Items) → length (rows (sheet_of I)) ≡ 2 * length I.blocks + length I.loops + length I.facts + 3 * length I.lblocks + length (used_sets (sheet_of I))

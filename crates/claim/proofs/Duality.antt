@@ -3,7 +3,7 @@ use Rattle.std.proofs.Common.{◌≡◌, ℕ, ◌+◌, ◌-◌, ◌*◌, ◌<◌
 use native.Mathlib.Decide.{dec_le}
 use lib.Signed.{≤ℤ_refl}
 use Rattle.std.proofs.lemmas.Int.{ints}
-use Rattle.std.specs.List.{AllByRecursion as All}
+use Rattle.std.specs.List.{AllByRecursion}
 use Rattle.sheet.specs.Rows.{Row, at_most}
 use Rattle.claim.specs.Certificate.{combined, SignsRight}
 use Rattle.claim.proofs.Ints.{*ℤ-+ℤ, *ℤ-mono, +ℤ-mono}
@@ -31,14 +31,14 @@ scaled : (t : Bool) (y a b : ℤ) → (t ≡ true → pos 0 ≤ℤ y) → Relate
 scaled true y a b h k = *ℤ-mono y a b (h refl) k
 scaled false y a b h k = subst (λ x. (y *ℤ a) ≤ℤ (y *ℤ x)) k (≤ℤ_refl (y *ℤ a))
 
-pub weighed : (ys : List ℤ) (rs : List Row) (f g : Row → ℤ) → SignsRight ys rs → All (λ r. Related (at_most r) (f r) (g r)) rs
+pub weighed : (ys : List ℤ) (rs : List Row) (f g : Row → ℤ) → SignsRight ys rs → AllByRecursion (λ r. Related (at_most r) (f r) (g r)) rs
     → combined ys rs f ≤ℤ combined ys rs g
 weighed [] rs f g s h = ≤ℤ_refl (pos 0)
 weighed (y ∷ ys) [] f g s h = ≤ℤ_refl (pos 0)
 weighed (y ∷ ys) (r ∷ rs) f g s h =
     +ℤ-mono (y *ℤ f r) (y *ℤ g r) _ _ (scaled (at_most r) y (f r) (g r) s.0 h.0) (weighed ys rs f g s.1 h.1)
 
-pub priced : {E : Type 0} (D : ℕ) (cost : E → ℕ) (total : E → ℤ) (es : List E) → All (λ e. pos (cost e * D) ≤ℤ total e) es
+pub priced : {E : Type 0} (D : ℕ) (cost : E → ℕ) (total : E → ℤ) (es : List E) → AllByRecursion (λ e. pos (cost e * D) ≤ℤ total e) es
     → pos (sum_nat cost es * D) ≤ℤ sum_int total es
 priced D cost total [] h = omega (arith, ints)
 priced D cost total (e ∷ es) h = omega (arith, ints, h.0, priced D cost total es h.1)

@@ -1,11 +1,10 @@
 -- For code: the columns of edges, misses and conflict edges. Assumes nothing.
-use Rattle.std.proofs.Common.{◌≡◌, ℕ, zero, suc, ◌+◌, ◌*◌, ◌<◌, ◌≤◌, Bool, true, false, cond, not, eqb, ◌⊎◌, List, [], ◌∷◌, ◌++◌, map, length, get_or, ℤ, pos, ◌+ℤ◌, ◌-ℤ◌, sym, refl, ap, ◌∙◌, subst, ap₂, inl, inr, zero-mul, arith}
+use Rattle.std.proofs.Common.{◌≡◌, ℕ, ◌*◌, ◌<◌, true, get_or, ℤ, pos, ◌+ℤ◌, ◌-ℤ◌, sym, ap, ◌∙◌, ap₂, zero-mul}
 use lib.Signed.{le_z}
-use Rattle.std.proofs.lemmas.List.{get_or_default}
 use Rattle.sheet.specs.Sheet.{Sheet, lblock}
 use Rattle.sheet.specs.Conflict.{used}
 use Rattle.sheet.specs.Rows.{T, M, P}
-use Rattle.claim.specs.Items.{Edge, LBlock, Conflict}
+use Rattle.claim.specs.Items.{Edge, Conflict}
 use Rattle.claim.specs.Shares.{Multipliers, Sized, loop_share, share_of_source, share_of_target, covered}
 use Rattle.claim.proofs.Totals.{total_edge, total_miss, total_conflict}
 

@@ -1,13 +1,12 @@
 -- A walk as a list of events, each an event of one column: a row's left side and the cost are sums over the events. Assumes nothing.
 use Rattle.std.proofs.Common.{◌≡◌, ℕ, ◌+◌, ◌*◌, ◌≤◌, Bool, true, false, cond, ◌&&◌, eqb, List, ◌++◌, map, ℤ, pos, ◌+ℤ◌, ◌≤ℤ◌, refl, ◌∙◌, ap₂, arith}
 use Rattle.std.proofs.lemmas.Int.{ints}
-use Rattle.std.specs.List.{AllByRecursion as All}
+use Rattle.std.specs.List.{AllByRecursion}
 use Rattle.std.proofs.ByRecursion.{All-append, All-map}
 use Rattle.sheet.specs.Sheet.{Sheet, Loop, lblock, last_block}
 use Rattle.claim.specs.Items.{Edge, Fact}
 use Rattle.sheet.specs.Walk.{back, entry}
 use Rattle.claim.specs.Items.{Conflict}
-use Rattle.sheet.specs.Rows
 use Rattle.sheet.specs.Rows.{Column, N, T, M, P, Row, in_row, out_row, loop_row, fact_row, arrival_row, departure_row, set_row, miss_row, cost, coefficient, one_if, is_at, is_start, foreign}
 use Rattle.words.proofs.Lists.{count}
 use Rattle.claim.proofs.Sums.{sum_nat, sum_int, sum_nat_++, sum_nat_map, sum_nat_none, sum_int_++, sum_int_map, sum_int_none, sum_int_one, sum_int_neg, sum_int_ratio}
@@ -21,8 +20,8 @@ abbrev pub events : List ℕ → List Edge → List ℕ → List Conflict → Li
 events ns ts ms ps = map N ns ++ map T ts ++ map M ms ++ map P ps
 
 module _ (ns : List ℕ) (ts : List Edge) (ms : List ℕ) (ps : List Conflict) where
-  pub all_events : (Q : Column → Type 0) → All (λ b. Q (N b)) ns → All (λ e. Q (T e)) ts → All (λ v. Q (M v)) ms → All (λ c. Q (P c)) ps
-      → All Q (events ns ts ms ps)
+  pub all_events : (Q : Column → Type 0) → AllByRecursion (λ b. Q (N b)) ns → AllByRecursion (λ e. Q (T e)) ts → AllByRecursion (λ v. Q (M v)) ms → AllByRecursion (λ c. Q (P c)) ps
+      → AllByRecursion Q (events ns ts ms ps)
   all_events Q n t m p =
       All-append Q (map N ns ++ map T ts ++ map M ms) (map P ps)
       (All-append Q (map N ns ++ map T ts) (map M ms)

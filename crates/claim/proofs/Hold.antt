@@ -1,6 +1,6 @@
 -- Every row holds of a lawful walk's events. Assumes nothing.
 use Rattle.std.proofs.Common.{◌≡◌, ℕ, ◌+◌, ◌*◌, ◌<◌, ◌≤◌, Bool, true, false, cond, ◌&&◌, eqb, List, [], ◌∷◌, ◌++◌, map, length, sym, refl, ap, ◌∙◌, ap₂, inl, arith}
-use Rattle.std.specs.List.{ContainsAt as Has, AllByRecursion as All}
+use Rattle.std.specs.List.{ContainsAt as Has, AllByRecursion}
 use Rattle.std.proofs.lemmas.Bool.{eq-eqb, ne_eqb, eqb-true, eqb-false}
 use Rattle.std.proofs.ByRecursion.{All-append, All-map, All-weaker, all-has, all_has_itself, all_kept_by}
 use Rattle.words.specs.Lists.{below}
@@ -55,7 +55,7 @@ module _ (S : Sheet) (wf : WellFormed S) where
   used_once s lt u = count_kept (used S) s S.sets lt ∙ ap (λ b. cond b 1 0) u
 
   -- where things are
-  pub lblocks_fetched : (w : List ℕ) → All (λ v. v < length S.lblocks) (trace S w)
+  pub lblocks_fetched : (w : List ℕ) → AllByRecursion (λ v. v < length S.lblocks) (trace S w)
   lblocks_fetched [] = tt
   lblocks_fetched (b ∷ w) =
       All-append (λ v. v < length S.lblocks) (fetches S b) (trace S w)
@@ -63,7 +63,7 @@ module _ (S : Sheet) (wf : WellFormed S) where
       (all_below (λ v. v < length S.lblocks) (length S.lblocks) (λ k h. h)))
       (lblocks_fetched w)
 
-  pub blocks_run : (a : ℕ) (w : List ℕ) → a < S.blocks → All (Has S.edges) (steps (a ∷ w)) → All (λ b. b < S.blocks) (a ∷ w)
+  pub blocks_run : (a : ℕ) (w : List ℕ) → a < S.blocks → AllByRecursion (Has S.edges) (steps (a ∷ w)) → AllByRecursion (λ b. b < S.blocks) (a ∷ w)
   blocks_run a [] lt h = (lt, tt)
   blocks_run a (b ∷ w) lt h =
       (lt, blocks_run b w (all-has (λ e. (e.from < S.blocks) × (e.to < S.blocks)) S.edges (edge a b) wf.joins_blocks h.0).1 h.1)
@@ -75,14 +75,14 @@ module _ (S : Sheet) (wf : WellFormed S) where
     abbrev vs : List ℕ
     vs = trace S (0 ∷ w)
 
-    all_taken : (ss : List ℕ) → All (Has (used_sets S)) ss → All (IsConflict S) (all_hops S ss vs)
+    all_taken : (ss : List ℕ) → AllByRecursion (Has (used_sets S)) ss → AllByRecursion (IsConflict S) (all_hops S ss vs)
     all_taken [] h = tt
     all_taken (s ∷ ss) h =
         All-append (IsConflict S) (hops S s START vs) (all_hops S ss vs)
         (hops_conflict S s h.0 vs START START (inl refl) (inl refl) (chain S wf w law.underway.follows law.ends))
         (all_taken ss h.1)
 
-    pub taken_conflicts : All (IsConflict S) taken
+    pub taken_conflicts : AllByRecursion (IsConflict S) taken
     taken_conflicts = all_taken (used_sets S) (all_has_itself (used_sets S))
 
     module _ (v : ℕ) (lt : v < length S.lblocks) where
@@ -127,7 +127,7 @@ module _ (S : Sheet) (wf : WellFormed S) where
       abbrev L : ℕ
       L = length S.lblocks
 
-      pub rows_hold : All Holds (rows S)
+      pub rows_hold : AllByRecursion Holds (rows S)
       rows_hold =
           All-append Holds _ (map miss_row (below L))
           (All-append Holds _ (map set_row (used_sets S))

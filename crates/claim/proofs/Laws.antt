@@ -1,18 +1,18 @@
 -- The laws of judging that are not about walks. Assumes nothing.
-use Rattle.std.proofs.Common.{◌≡◌, ℕ, suc, ◌+◌, ◌-◌, ◌*◌, ◌≤◌, ◌⊎◌, List, [], ◌∷◌, map, length, ℤ, pos, ◌+ℤ◌, ◌*ℤ◌, ◌≤ℤ◌, sym, refl, ap, ◌∙◌, subst, ap₂, inl, inr, ⊎_elim, mul-le-mul_right, arith}
-use Rattle.std.specs.List.{AllByRecursion as All}
+use Rattle.std.proofs.Common.{◌≡◌, ℕ, suc, ◌-◌, ◌*◌, ◌≤◌, List, [], ◌∷◌, map, length, ℤ, pos, ◌+ℤ◌, ◌*ℤ◌, refl, ap, ◌∙◌, subst, ap₂, inl, inr, ⊎_elim, mul-le-mul_right, arith}
+use Rattle.std.specs.List.{AllByRecursion}
 use Rattle.std.proofs.lemmas.Int.{ints}
-use Rattle.words.specs.Words.{kind, payload, same_kind, refusal, not_due, ends_early, wrong_end, out_of_limit, wrong_pairs, wrong_sign, negative_multiplier, column_too_low, claim_too_low, Answer, accepted, refused, Check, first_failing}
+use Rattle.words.specs.Words.{kind, payload, same_kind, refusal, not_due, ends_early, wrong_end, out_of_limit, wrong_pairs, wrong_sign, negative_multiplier, column_too_low, claim_too_low, Answer, accepted, refused, first_failing}
 use Rattle.sheet.specs.Sheet.{Sheet}
 use Rattle.sheet.specs.ConflictList.{conflicts}
 use Rattle.sheet.specs.Rows.{Row, Column, rows, coefficient}
 use Rattle.sheet.proofs.FirstFault.{failing_one, step_refused}
 use Rattle.claim.specs.Kinds.{Kind, NONE, HEAD, BLOCK, LBLOCK, COST, EDGE, LOOP, BACK, FACT, CLAIM, HIGH, LOW, START, STEP, FINISH, END, Refusal}
-use Rattle.claim.specs.Certificate.{Certificate, Passes, combined}
+use Rattle.claim.specs.Certificate.{Certificate, combined}
 use Rattle.claim.specs.CertificateFault.{Numbered, JudgeNumbered}
 use Rattle.claim.specs.Judge.{Verdict, passed, negative, low_column, low_claim, judge}
 use Rattle.claim.specs.Judging.{add_row, by_rows, RowWise, Monotone}
-use Rattle.claim.specs.ReadCertificate.{Stand, State, checks, demands, next, read_from, read_certificate, start, answered, judged}
+use Rattle.claim.specs.ReadCertificate.{Stand, State, checks, demands, next, read_from, read_certificate, start, answered}
 
 map_same : {A B : Type 0} (f g : A → B) → ((x : A) → f x ≡ g x) → (xs : List A) → map f xs ≡ map g xs
 map_same f g h [] = refl
@@ -55,7 +55,7 @@ is_10 i = inr (omega arith, omega arith, refl)
 is_11 : (i : ℕ) → Numbered (refusal wrong_sign i)
 is_11 i = inr (omega arith, omega arith, refl)
 
-checks_numbered : (d : Stand) (k : Kind) (p i : ℕ) (rest : List ℕ) → All (λ c. Numbered c.otherwise) (checks d k p i rest)
+checks_numbered : (d : Stand) (k : Kind) (p i : ℕ) (rest : List ℕ) → AllByRecursion (λ c. Numbered c.otherwise) (checks d k p i rest)
 checks_numbered d CLAIM p i rest = ((word_layer i).3, tt)
 checks_numbered d HIGH p i rest = (is_11 i, (is_11 i, tt))
 checks_numbered d LOW p i rest = (is_11 (i - 1), tt)

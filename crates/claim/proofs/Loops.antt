@@ -1,6 +1,6 @@
 -- A loop's bound, kept at each back edge, gives the loop row. Assumes nothing.
-use Rattle.std.proofs.Common.{◌≡◌, ℕ, suc, ◌+◌, ◌*◌, ◌<◌, ◌≤◌, Bool, true, false, cond, not, ◌&&◌, eqb, ◌⊎◌, List, [], ◌∷◌, ◌++◌, sym, refl, ap, ◌∙◌, subst, ap₂, inl, inr, ⊎_elim, append_assoc, append-nil, add-zero, arith}
-use Rattle.std.specs.List.{AllByRecursion as All}
+use Rattle.std.proofs.Common.{◌≡◌, ℕ, suc, ◌+◌, ◌*◌, ◌<◌, ◌≤◌, Bool, true, false, cond, not, ◌&&◌, eqb, List, [], ◌∷◌, ◌++◌, sym, refl, ap, ◌∙◌, subst, append_assoc, append-nil, add-zero, arith}
+use Rattle.std.specs.List.{AllByRecursion}
 use Rattle.std.proofs.lemmas.Bool.{both_ways}
 use Rattle.words.specs.Lists.{any}
 use Rattle.sheet.specs.Sheet.{Loop}
@@ -36,7 +36,7 @@ run_++ l n [] ys = refl
 run_++ l n (x ∷ xs) ys = run_++ l (move l n x) xs ys
 
 -- with no entry edge, the back edges add up
-run_on : (l : Loop) (k : ℕ) (es : List Edge) → All (λ e. entry l e ≡ false) es → run l (after k) es ≡ after (k + count (back l) es)
+run_on : (l : Loop) (k : ℕ) (es : List Edge) → AllByRecursion (λ e. entry l e ≡ false) es → run l (after k) es ≡ after (k + count (back l) es)
 run_on l k [] h = ap after (sym (add-zero k))
 run_on l k (e ∷ es) h = ap (λ i. run l (moved i (back l e) (after k)) es) h.0 ∙ go (back l e) (λ j. run_on l j es h.1)
   where

@@ -1,6 +1,6 @@
 -- A walk's fetches follow the arrows, so each of its hops is a conflict edge. Assumes nothing.
 use Rattle.std.proofs.Common.{◌≡◌, ℕ, ◌<◌, true, false, ◌⊎◌, List, [], ◌∷◌, ◌++◌, sym, refl, ap, ◌∙◌, subst, inl, inr, append_assoc}
-use Rattle.std.specs.List.{ContainsAt as Has, AllByRecursion as All}
+use Rattle.std.specs.List.{ContainsAt as Has, AllByRecursion}
 use Rattle.std.proofs.lemmas.Bool.{ne_eqb, eq-eqb}
 use Rattle.std.proofs.ByRecursion.{all-has}
 use Rattle.sheet.specs.Sheet.{Sheet, lblock, fetches, last_block, WellFormed}
@@ -24,7 +24,7 @@ through S b rest on (u ∷ vs) us v x e a =
     (a, through S b rest on vs (us ++ (v ∷ [])) u (at v) (e ∙ sym (append_assoc us (v ∷ []) (u ∷ vs))) (next b us vs e))
 
 module _ (S : Sheet) (wf : WellFormed S) where
-  walk_chain : (w : List ℕ) (a : ℕ) (x : Node) → a < S.blocks → All (Has S.edges) (steps (a ∷ w)) → Ends (last_block S) (a ∷ w)
+  walk_chain : (w : List ℕ) (a : ℕ) (x : Node) → a < S.blocks → AllByRecursion (Has S.edges) (steps (a ∷ w)) → Ends (last_block S) (a ∷ w)
       → ((v : ℕ) (vs : List ℕ) → fetches S a ≡ v ∷ vs → Arrow S x (at v)) → Chain S x (trace S (a ∷ w))
   walk_chain [] a x lt h e enter =
       let f = first_of (fetches S a) (wf.filled a lt) in
@@ -37,7 +37,7 @@ module _ (S : Sheet) (wf : WellFormed S) where
       (through S a (trace S (b ∷ w)) (λ us u g. walk_chain w b (at u) blt h.1 e (λ v vs g'. crosses a b us vs h.0 g g'))
       f.1 [] f.0 x f.2 (enter f.0 f.1 f.2))
 
-  pub chain : (w : List ℕ) → All (Has S.edges) (steps (0 ∷ w)) → Ends (last_block S) (0 ∷ w) → Chain S START (trace S (0 ∷ w))
+  pub chain : (w : List ℕ) → AllByRecursion (Has S.edges) (steps (0 ∷ w)) → Ends (last_block S) (0 ∷ w) → Chain S START (trace S (0 ∷ w))
   chain w h e = walk_chain w 0 START wf.starts h e (λ v vs g. starts vs g)
 
 -- at x, on the way from u through no l-block of s
@@ -50,10 +50,10 @@ along S s u x y (inr h) a = more h.0 h.1 a
 
 module _ (S : Sheet) (s : ℕ) (used : Has (used_sets S) s) where
   pub hops_conflict : (vs : List ℕ) (u x : Node) → (u ≡ START) ⊎ (in_set S s u ≡ true) → OnWay S s u x → Chain S x vs
-      → All (IsConflict S) (hops S s u vs)
+      → AllByRecursion (IsConflict S) (hops S s u vs)
   hops_conflict [] u x l o h = (record { of_used = used; leaves = l; reaches = inl refl; leads = along S s u x END o h }, tt)
   hops_conflict (v ∷ vs) u x l o h =
-      by_set S s (All (IsConflict S)) u v vs
+      by_set S s (AllByRecursion (IsConflict S)) u v vs
       (λ e. let t = eq-eqb (lblock S v).set s e in (
         record { of_used = used; leaves = l; reaches = inr t; leads = along S s u x (at v) o h.0 },
         hops_conflict vs (at v) (at v) (inr t) (inl refl) h.1,

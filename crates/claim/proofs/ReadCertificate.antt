@@ -1,7 +1,7 @@
 -- The certificates that are accepted are those that fit. Assumes nothing.
 use Rattle.std.proofs.Common.{◌≡◌, ℕ, zero, suc, ◌+◌, ◌*◌, ◌/◌, ◌%◌, ◌^◌, ◌<◌, ◌≤◌, Bool, true, false, not, ◌&&◌, eqb, List, [], ◌∷◌, ◌++◌, length, ℤ, pos, negsuc, neg_ℤ, sym, refl, ap, ◌∙◌, subst, ⊎_elim, zero-add, arith}
 use mathlib.Core.Option.{none}
-use Rattle.std.specs.List.{AllByRecursion as All}
+use Rattle.std.specs.List.{AllByRecursion}
 use Rattle.std.proofs.lemmas.List.{append_assoc, append-nil, length-append, length_push}
 use Rattle.std.proofs.ByRecursion.{All-push}
 use Rattle.std.proofs.lemmas.Bool.{false≢true, eqb-true, eq-eqb, ne_eqb, not-true, not_from_false}
@@ -48,7 +48,7 @@ pub record Partly (N n : ℕ) (C : Certificate) : Type 0 where
   pub scale : (1 ≤ C.D) × (C.D ≤ 1048575)
   pub claim_fits : C.W < 2 ^ 40
   pub each_row : n + length C.multipliers ≡ N
-  pub multipliers_fit : All (λ y. magnitude y < 2 ^ 40) C.multipliers
+  pub multipliers_fit : AllByRecursion (λ y. magnitude y < 2 ^ 40) C.multipliers
 
 abbrev pub Holds : ℕ → Stand → Certificate → Type 0
 Holds N (at_claim n) C = (n ≡ N) × (C.multipliers ≡ [])
@@ -76,18 +76,18 @@ pair_read : (y : ℤ) (s t p : ℕ) → sign y ≡ s → magnitude y ≡ fields 
 pair_read y s t p e m b = rw (e, m, high_field 28 t p b, low_field 28 t p b)
 
 pub step : (N : ℕ) (d : Stand) (C : Certificate) (k : Kind) (p i : ℕ) (rest : List ℕ) → Holds N d C → OneOf k (due d)
-    → All (λ c. c.holds ≡ true) (checks d k p i rest) → p < 2 ^ 28 → same_kind k END ≡ false → Step N d C k p
+    → AllByRecursion (λ c. c.holds ≡ true) (checks d k p i rest) → p < 2 ^ 28 → same_kind k END ≡ false → Step N d C k p
 step N (at_claim n) C k p i rest inv o h b ne = ⊎_elim (λ e. subst P (sym e) at h) (λ z. absurd z) o
   where
     P : Kind → Type 0
-    P k = All (λ c. c.holds ≡ true) (checks (at_claim n) k p i rest) → Step N (at_claim n) C k p
+    P k = AllByRecursion (λ c. c.holds ≡ true) (checks (at_claim n) k p i rest) → Step N (at_claim n) C k p
 
     at : P CLAIM
     at h = let r = within_true 1 1048575 p h.0 in ((inv.0, inv.1, r.0, r.1), refl)
 step N (at_W n) C k p i rest inv o h b ne = ⊎_elim (λ e. subst P (sym e) at h) (λ z. absurd z) o
   where
     P : Kind → Type 0
-    P k = All (λ c. c.holds ≡ true) (checks (at_W n) k p i rest) → Step N (at_W n) C k p
+    P k = AllByRecursion (λ c. c.holds ≡ true) (checks (at_W n) k p i rest) → Step N (at_W n) C k p
 
     at : P HIGH
     at h =
@@ -97,7 +97,7 @@ step N (at_W n) C k p i rest inv o h b ne = ⊎_elim (λ e. subst P (sym e) at h
 step N (at_W_low n t) C k p i rest inv o h b ne = ⊎_elim (λ e. subst P (sym e) at h) (λ z. absurd z) o
   where
     P : Kind → Type 0
-    P k = All (λ c. c.holds ≡ true) (checks (at_W_low n t) k p i rest) → Step N (at_W_low n t) C k p
+    P k = AllByRecursion (λ c. c.holds ≡ true) (checks (at_W_low n t) k p i rest) → Step N (at_W_low n t) C k p
 
     at : P LOW
     at h = (
@@ -105,7 +105,7 @@ step N (at_W_low n t) C k p i rest inv o h b ne = ⊎_elim (λ e. subst P (sym e
         scale = (inv.2, inv.3);
         claim_fits = fields_below t p inv.4 b;
         each_row = omega (arith, inv.0, ap length inv.1);
-        multipliers_fit = subst (λ ys. All (λ y. magnitude y < 2 ^ 40) ys) (sym inv.1) tt;
+        multipliers_fit = subst (λ ys. AllByRecursion (λ y. magnitude y < 2 ^ 40) ys) (sym inv.1) tt;
       },
       rw (inv.1, pair_read (pos (fields 28 t p)) 0 t p refl refl b) refl,
     )
@@ -113,14 +113,14 @@ step N (at_pair zero) C k p i rest inv o h b ne = ⊎_elim (λ e. absurd (false�
 step N (at_pair (suc n)) C k p i rest inv o h b ne = ⊎_elim (λ e. subst P (sym e) at h) (λ z. absurd z) o
   where
     P : Kind → Type 0
-    P k = All (λ c. c.holds ≡ true) (checks (at_pair (suc n)) k p i rest) → Step N (at_pair (suc n)) C k p
+    P k = AllByRecursion (λ c. c.holds ≡ true) (checks (at_pair (suc n)) k p i rest) → Step N (at_pair (suc n)) C k p
 
     at : P HIGH
     at h = ((inv, mod_below p (2 ^ 12) (omega arith)), ap (λ x. claim_words C ++ (word HIGH x ∷ [])) (sym (high_payload p b h.0)))
 step N (at_low n m t) C k p i rest inv o h b ne = ⊎_elim (λ e. subst P (sym e) at h) (λ z. absurd z) o
   where
     P : Kind → Type 0
-    P k = All (λ c. c.holds ≡ true) (checks (at_low n m t) k p i rest) → Step N (at_low n m t) C k p
+    P k = AllByRecursion (λ c. c.holds ≡ true) (checks (at_low n m t) k p i rest) → Step N (at_low n m t) C k p
 
     at : P LOW
     at h =
@@ -140,7 +140,7 @@ step N (at_low n m t) C k p i rest inv o h b ne = ⊎_elim (λ e. subst P (sym e
 
 -- END
 done : (N : ℕ) (d : Stand) (C : Certificate) (p i : ℕ) (rest : List ℕ) → Holds N d C → one_of END (due d) ≡ true
-    → All (λ c. c.holds ≡ true) (checks d END p i rest) → p < 2 ^ 28 → i ≡ length (so_far d C)
+    → AllByRecursion (λ c. c.holds ≡ true) (checks d END p i rest) → p < 2 ^ 28 → i ≡ length (so_far d C)
     → (so_far d C ++ (word END p ∷ rest) ≡ encode_certificate C) × CertificateFits N C
 done N (at_claim n) C p i rest inv o h b e = absurd (false≢true o)
 done N (at_W n) C p i rest inv o h b e = absurd (false≢true o)
@@ -187,7 +187,7 @@ module _ (N : ℕ) (R : Certificate) where
       (λ x.
       let k = end_kind (kind w) x.0 in
       let c : C ≡ R = cc x.1 in
-      let f = done N d C (payload w) i rest inv (subst (λ k. one_of k (due d) ≡ true) k h.1.0) (subst (λ k. All (λ c. c.holds ≡ true) (checks d k (payload w) i rest)) k h.1.1) (payload_below w) li in
+      let f = done N d C (payload w) i rest inv (subst (λ k. one_of k (due d) ≡ true) k h.1.0) (subst (λ k. AllByRecursion (λ c. c.holds ≡ true) (checks d k (payload w) i rest)) k h.1.1) (payload_below w) li in
       (ap (λ z. so_far d C ++ (z ∷ rest)) (q ∙ ap (λ k. word k (payload w)) k) ∙ f.0 ∙ ap encode_certificate c, subst (CertificateFits N) c f.1))
       (λ x.
       let s = step N d C (kind w) (payload w) i rest inv (is_one_of (kind w) (due d) h.1.0) h.1.1 (payload_below w) x.0 in
@@ -221,7 +221,7 @@ reads_on st w rest i e f =
     step_on (first_failing (demands st w i rest)) (same_kind (kind w) END) (accepted st.read) (read_from (next st.stand st.read (kind w) (payload w)) rest (suc i)) e f
 
 run_word : (d : Stand) (C : Certificate) (k : Kind) (p : ℕ) → one_of k (barred d) ≡ false → one_of k (due d) ≡ true
-    → ((i : ℕ) (rest : List ℕ) → All (λ c. c.holds ≡ true) (checks d k p i rest)) → same_kind k END ≡ false → p < 2 ^ 28
+    → ((i : ℕ) (rest : List ℕ) → AllByRecursion (λ c. c.holds ≡ true) (checks d k p i rest)) → same_kind k END ≡ false → p < 2 ^ 28
     → Runs (stands d C) (word k p ∷ []) (next d C k p)
 run_word d C k p n o h ne b = record {
   on = λ rest i.
@@ -230,8 +230,8 @@ run_word d C k p n o h ne b = record {
         subst (λ j. not (one_of j (barred d)) ≡ true) (sym ek) (not_from_false (one_of k (barred d)) n),
         (
           subst (λ j. one_of j (due d) ≡ true) (sym ek) o,
-          subst (λ j. All (λ c. c.holds ≡ true) (checks d j (payload (word k p)) i rest)) (sym ek)
-              (subst (λ x. All (λ c. c.holds ≡ true) (checks d k x i rest)) (sym ep) (h i rest)),
+          subst (λ j. AllByRecursion (λ c. c.holds ≡ true) (checks d j (payload (word k p)) i rest)) (sym ek)
+              (subst (λ x. AllByRecursion (λ c. c.holds ≡ true) (checks d k x i rest)) (sym ep) (h i rest)),
         ),
       ))
       (subst (λ j. same_kind j END ≡ false) (sym ek) ne)
@@ -310,7 +310,7 @@ run_pair n C y h =
 abbrev with_multipliers : Certificate → List ℤ → Certificate
 with_multipliers C ys = record { W = C.W; D = C.D; multipliers = C.multipliers ++ ys }
 
-run_pairs : (C : Certificate) (ys : List ℤ) → All (λ y. magnitude y < 2 ^ 40) ys
+run_pairs : (C : Certificate) (ys : List ℤ) → AllByRecursion (λ y. magnitude y < 2 ^ 40) ys
     → Runs (stands (at_pair (length ys)) C) (joined pair_words ys) (stands (at_pair 0) (with_multipliers C ys))
 run_pairs C [] h =
     subst (λ z. Runs (stands (at_pair 0) C) [] (stands (at_pair 0) (record { W = C.W; D = C.D; multipliers = z }))) (sym (append-nil C.multipliers)) runs_none
@@ -348,7 +348,7 @@ run_end C i b =
       subst (λ j. not (one_of j (HIGH ∷ [])) ≡ true) (sym ek) refl,
       (
         subst (λ j. one_of j (END ∷ []) ≡ true) (sym ek) refl,
-        subst (λ j. All (λ c. c.holds ≡ true) (checks (at_pair 0) j (payload w) i [])) (sym ek) (eq-eqb (payload w) i (payload_word END i b), (refl, tt)),
+        subst (λ j. AllByRecursion (λ c. c.holds ≡ true) (checks (at_pair 0) j (payload w) i [])) (sym ek) (eq-eqb (payload w) i (payload_word END i b), (refl, tt)),
       ),
     ))
     (subst (λ j. same_kind j END ≡ true) (sym ek) refl)

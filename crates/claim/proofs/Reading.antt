@@ -1,15 +1,14 @@
 -- For the code that reads a certificate: each of its parts. Assumes nothing.
-use Rattle.std.proofs.Common.{◌≡◌, ℕ, zero, suc, ◌+◌, ◌-◌, ◌*◌, ◌^◌, ◌<◌, ◌≤◌, Bool, true, false, not, ◌&&◌, eqb, leb, ◌⊎◌, List, [], ◌∷◌, ◌++◌, map, length, get_or, take, drop, sym, refl, ap, ◌∙◌, subst, ap₂, inl, inr, add-zero, add-one, arith}
+use Rattle.std.proofs.Common.{◌≡◌, ℕ, suc, ◌+◌, ◌-◌, ◌^◌, ◌<◌, ◌≤◌, Bool, true, false, not, ◌&&◌, eqb, leb, ◌⊎◌, List, [], ◌∷◌, ◌++◌, length, get_or, take, drop, sym, refl, ap, ◌∙◌, subst, ap₂, inl, inr, add-zero, add-one, arith}
 use mathlib.Core.Option.{Option, none, some}
-use Rattle.std.specs.Simd.{first_chunks}
-use Rattle.std.proofs.lemmas.List.{get_or-take, get_or-drop, drop-drop, take-take, take_all, map-append}
+use Rattle.std.proofs.lemmas.List.{get_or-take, get_or-drop}
 use Rattle.std.proofs.lemmas.Nat.{mod_below}
 use Rattle.std.proofs.lemmas.Bool.{ne_eqb, eq-eqb, lt-leb, and_left, and_right, and_from}
 use Rattle.words.specs.declared.refusal.WordFault.{WordFault}
 use Rattle.words.specs.declared.refusal.WordFault.TheVariants.{EndsEarly}
 use Rattle.words.specs.Faults.{word_refusal}
 use Rattle.words.specs.Taking.{NotTaken, counts_test, ends_test}
-use Rattle.words.specs.Words.{kind, payload, same_kind, one_of, within, fields, minus_bit, unused_bits, top_field, empty, refusal, not_due, wrong_end, out_of_limit, wrong_pairs, wrong_sign, accepted, refused, demand, first_failing}
+use Rattle.words.specs.Words.{kind, payload, same_kind, one_of, within, fields, minus_bit, unused_bits, top_field, refusal, not_due, out_of_limit, wrong_pairs, wrong_sign, accepted, refused, demand, first_failing}
 use Rattle.words.proofs.Words.{payload_below, true_within}
 use Rattle.words.proofs.Checks.{fails, passes}
 use Rattle.claim.specs.Kinds.{Kind, CLAIM, HIGH, LOW, END, Refusal}

@@ -1,7 +1,7 @@
 -- The safety theorem. Assumes nothing.
 use Rattle.std.proofs.Common.{◌≡◌, ℕ, ◌+◌, ◌-◌, ◌*◌, ◌<◌, ◌≤◌, List, [], ◌∷◌, ◌++◌, map, length, pos, ◌≤ℤ◌, sym, ap, ◌∙◌, subst, arith}
 use Rattle.std.proofs.lemmas.Int.{ints}
-use Rattle.std.specs.List.{ContainsAt as Has, AllByRecursion as All}
+use Rattle.std.specs.List.{ContainsAt as Has, AllByRecursion}
 use Rattle.std.proofs.ByRecursion.{all-has, All-weaker}
 use Rattle.words.specs.Lists.{below}
 use Rattle.sheet.specs.Sheet.{Sheet, lblock, WellFormed}
@@ -20,7 +20,7 @@ use Rattle.claim.proofs.Events.{events, all_events, cost_events}
 use Rattle.claim.proofs.Hold.{lblocks_fetched, blocks_run, taken, taken_conflicts, rows_hold}
 
 -- what holds of every column holds of the column of everything that can happen
-module _ (S : Sheet) (cs : List Conflict) (Q : Column → Type 0) (h : All Q (columns S cs)) where
+module _ (S : Sheet) (cs : List Conflict) (Q : Column → Type 0) (h : AllByRecursion Q (columns S cs)) where
   abbrev Ns : List Column
   Ns = map N (below S.blocks)
 
@@ -33,13 +33,13 @@ module _ (S : Sheet) (cs : List Conflict) (Q : Column → Type 0) (h : All Q (co
   of_block : (b : ℕ) → b < S.blocks → Q (N b)
   of_block b lt = below_all (λ b. Q (N b)) S.blocks (all_unmap Q N (below S.blocks) (all_left Q Ns Ts (all_left Q (Ns ++ Ts) Ms (all_left Q (Ns ++ Ts ++ Ms) (map P cs) h)))) b lt
 
-  of_edges : All (λ e. Q (T e)) S.edges
+  of_edges : AllByRecursion (λ e. Q (T e)) S.edges
   of_edges = all_unmap Q T S.edges (all_right Q Ns Ts (all_left Q (Ns ++ Ts) Ms (all_left Q (Ns ++ Ts ++ Ms) (map P cs) h)))
 
   of_lblock : (v : ℕ) → v < length S.lblocks → Q (M v)
   of_lblock v lt = below_all (λ v. Q (M v)) (length S.lblocks) (all_unmap Q M (below (length S.lblocks)) (all_right Q (Ns ++ Ts) Ms (all_left Q (Ns ++ Ts ++ Ms) (map P cs) h))) v lt
 
-  of_conflicts : All (λ c. Q (P c)) cs
+  of_conflicts : AllByRecursion (λ c. Q (P c)) cs
   of_conflicts = all_unmap Q P cs (all_right Q (Ns ++ Ts ++ Ms) (map P cs) h)
 
 -- a walk from block 0 on
@@ -53,7 +53,7 @@ from_0 S cs C wf complete ok w law R R' c r = unscaled c C.W C.D ok.scaled (omeg
     Q : Column → Type 0
     Q x = pos (cost S x * C.D) ≤ℤ column_total S C x
 
-    covered : All Q E
+    covered : AllByRecursion Q E
     covered =
         all_events (0 ∷ w) (steps (0 ∷ w)) (missed r) (taken S wf w law) Q
         (All-weaker _ (λ b. Q (N b)) (of_block S cs Q ok.covered) (0 ∷ w) (blocks_run S wf 0 w wf.starts law.underway.follows))

@@ -1,9 +1,9 @@
 -- For code: the used sets, and the l-blocks that conflict edges join. Assumes nothing.
-use Rattle.std.proofs.Common.{◌≡◌, ℕ, zero, suc, ◌+◌, ◌<◌, ◌≤◌, Bool, true, false, cond, ◌||◌, eqb, ◌⊎◌, List, [], ◌∷◌, ◌++◌, map, length, get_or, take, set, replicate, filter, sym, refl, ap, ◌∙◌, subst, ap₂, inl, inr, not-suc-le-zero, arith}
-use Rattle.std.specs.List.{ContainsAt as Has, AllByRecursion as All}
+use Rattle.std.proofs.Common.{◌≡◌, ℕ, zero, suc, ◌+◌, ◌<◌, ◌≤◌, Bool, true, false, cond, ◌||◌, eqb, ◌⊎◌, List, [], ◌∷◌, ◌++◌, length, get_or, take, set, replicate, filter, sym, refl, ap, ◌∙◌, subst, inl, inr, not-suc-le-zero, arith}
+use Rattle.std.specs.List.{ContainsAt as Has, AllByRecursion}
 use Rattle.std.proofs.lemmas.List.Elements.{filter-append}
 use Rattle.std.proofs.ByRecursion.{All-get_or, all_has_itself, All-append, All-map, all-has, all_kept_by, kept_by_passes}
-use Rattle.std.proofs.lemmas.List.{get_or-set_same, get_or-set_other, get_or-replicate, length-set, length-append, take_all}
+use Rattle.std.proofs.lemmas.List.{get_or-set_same, get_or-set_other, get_or-replicate, length-append, take_all}
 use Rattle.std.proofs.lemmas.Bool.{eq-eqb, ne_eqb, cases_eq}
 use Rattle.words.specs.Lists.{below, any, joined}
 use Rattle.words.proofs.Lists.{all_below}
@@ -14,7 +14,7 @@ use Rattle.sheet.specs.Kept.{used_among}
 use Rattle.sheet.proofs.SheetLists.{below_push}
 use Rattle.sheet.proofs.Used.{used_more, used_few}
 use Rattle.claim.specs.Items.{LBlock, Node, START, at, END, Conflict}
-use Rattle.claim.specs.Tables.{UsedTable, RankTable, NodeIn}
+use Rattle.claim.specs.Tables.{UsedTable, NodeIn}
 use Rattle.claim.proofs.Loopings.{any_more, or_true, or_no}
 
 -- the table of used sets
@@ -67,15 +67,15 @@ set_used S c h = (
 )
 
 -- its ends are START, END or l-blocks of the sheet
-all_joined : {A B : Type 0} (P : B → Type 0) (f : A → List B) (xs : List A) → All (λ x. All P (f x)) xs → All P (joined f xs)
+all_joined : {A B : Type 0} (P : B → Type 0) (f : A → List B) (xs : List A) → AllByRecursion (λ x. AllByRecursion P (f x)) xs → AllByRecursion P (joined f xs)
 all_joined P f [] h = tt
 all_joined P f (x ∷ xs) h = All-append P (f x) (joined f xs) h.0 (all_joined P f xs h.1)
 
-all_each : {A : Type 0} (P : A → Type 0) → ((x : A) → P x) → (xs : List A) → All P xs
+all_each : {A : Type 0} (P : A → Type 0) → ((x : A) → P x) → (xs : List A) → AllByRecursion P xs
 all_each P h [] = tt
 all_each P h (x ∷ xs) = (h x, all_each P h xs)
 
-all_from : {A : Type 0} (P Q : A → Type 0) → ((x : A) → P x → Q x) → (xs : List A) → All P xs → All Q xs
+all_from : {A : Type 0} (P Q : A → Type 0) → ((x : A) → P x → Q x) → (xs : List A) → AllByRecursion P xs → AllByRecursion Q xs
 all_from P Q h [] a = tt
 all_from P Q h (x ∷ xs) a = (h x a.0, all_from P Q h xs a.1)
 
@@ -86,20 +86,20 @@ module _ (S : Sheet) where
   abbrev EndsIn : Conflict → Type 0
   EndsIn c = NodeIn n c.from × NodeIn n c.to
 
-  members_in : (s : ℕ) → All (NodeIn n) (members S s)
+  members_in : (s : ℕ) → AllByRecursion (NodeIn n) (members S s)
   members_in s = All-map (NodeIn n) at (set_lblocks S s) (all_kept_by (λ v. in_set S s (at v)) (λ v. v < n) (below n) (all_below (λ v. v < n) n (λ k l. l)))
 
-  from_in : (s : ℕ) (u : Node) → NodeIn n u → All EndsIn (conflicts_from S s u)
+  from_in : (s : ℕ) (u : Node) → NodeIn n u → AllByRecursion EndsIn (conflicts_from S s u)
   from_in s u h =
       All-map EndsIn (λ v. record { set = s; from = u; to = v }) (leads_to S s u)
       (all_from (NodeIn n) (λ v. NodeIn n u × NodeIn n v) (λ v a. (h, a)) (leads_to S s u)
       (all_kept_by (conflicting S s u) (NodeIn n) (members S s ++ (END ∷ [])) (All-append (NodeIn n) (members S s) (END ∷ []) (members_in s) (tt, tt))))
 
-  set_in : (s : ℕ) → All EndsIn (conflicts_of S s)
-  set_in s = all_joined EndsIn (conflicts_from S s) (START ∷ members S s) (from_in s START tt, all_from (NodeIn n) (λ u. All EndsIn (conflicts_from S s u)) (from_in s) (members S s) (members_in s))
+  set_in : (s : ℕ) → AllByRecursion EndsIn (conflicts_of S s)
+  set_in s = all_joined EndsIn (conflicts_from S s) (START ∷ members S s) (from_in s START tt, all_from (NodeIn n) (λ u. AllByRecursion EndsIn (conflicts_from S s u)) (from_in s) (members S s) (members_in s))
 
-  pub ends_in : All EndsIn (conflicts S)
-  ends_in = all_joined EndsIn (conflicts_of S) (used_sets S) (all_each (λ s. All EndsIn (conflicts_of S s)) set_in (used_sets S))
+  pub ends_in : AllByRecursion EndsIn (conflicts S)
+  ends_in = all_joined EndsIn (conflicts_of S) (used_sets S) (all_each (λ s. AllByRecursion EndsIn (conflicts_of S s)) set_in (used_sets S))
 
 -- the conflict edge at a place of the list
 pub conflict_at : (S : Sheet) (cs : List Conflict) → cs ≡ conflicts S → (p : ℕ) (d : Conflict) → p < length (conflicts S)

@@ -1,7 +1,7 @@
 -- For code: which rows say `at most`, and the test of signs. Assumes nothing.
-use Rattle.std.proofs.Common.{◌≡◌, ℕ, zero, suc, ◌+◌, ◌-◌, ◌*◌, ◌<◌, ◌≤◌, Bool, true, false, not, ◌||◌, List, [], ◌∷◌, ◌++◌, map, length, get_or, ℤ, pos, sym, refl, ap, ◌∙◌, subst, ap₂, le_of_suc-le-suc, not-suc-le-zero, arith}
+use Rattle.std.proofs.Common.{◌≡◌, ℕ, zero, suc, ◌+◌, ◌-◌, ◌*◌, ◌<◌, ◌≤◌, Bool, true, false, not, ◌||◌, List, [], ◌∷◌, ◌++◌, map, length, get_or, ℤ, pos, sym, refl, ap, ◌∙◌, le_of_suc-le-suc, not-suc-le-zero, arith}
 use lib.Signed.{le_z}
-use Rattle.std.specs.List.{AllByRecursion as All}
+use Rattle.std.specs.List.{AllByRecursion}
 use Rattle.std.proofs.ByRecursion.{All-get_or, All-append}
 use Rattle.std.proofs.lemmas.List.{append_assoc, length-append, length-map, get_or-map, get_or_append_left, get_or-append_right}
 use Rattle.words.specs.Lists.{below}
@@ -12,7 +12,7 @@ use Rattle.sheet.specs.Rows.{Row, rows, at_most, in_row, out_row, loop_row, fact
 use Rattle.claim.specs.Judge.{sign_tests}
 use Rattle.claim.specs.Parts.{multiplier, multipliers}
 
-all_made : {A : Type 0} (P : Row → Type 0) (g : A → Row) → ((x : A) → P (g x)) → (xs : List A) → All P (map g xs)
+all_made : {A : Type 0} (P : Row → Type 0) (g : A → Row) → ((x : A) → P (g x)) → (xs : List A) → AllByRecursion P (map g xs)
 all_made P g h [] = tt
 all_made P g h (x ∷ xs) = (h x, all_made P g h xs)
 

@@ -1,16 +1,15 @@
 -- The total of each column, and of the right sides, by the families of rows. Assumes nothing.
-use Rattle.std.proofs.Common.{◌≡◌, ℕ, zero, suc, ◌+◌, ◌*◌, ◌<◌, ◌≤◌, Bool, true, false, cond, not, ◌&&◌, eqb, ◌⊎◌, List, [], ◌∷◌, ◌++◌, map, length, get_or, take, drop, ℤ, pos, ◌+ℤ◌, ◌-ℤ◌, ◌*ℤ◌, neg_ℤ, filter, sym, refl, ap, ◌∙◌, subst, ap₂, inl, inr, zero-add, arith}
+use Rattle.std.proofs.Common.{◌≡◌, ℕ, ◌+◌, ◌<◌, ◌≤◌, Bool, true, false, cond, ◌&&◌, eqb, ◌⊎◌, List, ◌++◌, map, length, get_or, take, drop, ℤ, pos, ◌+ℤ◌, ◌-ℤ◌, neg_ℤ, sym, refl, ap, ◌∙◌, subst, ap₂, inl, inr, zero-add, arith}
 use Rattle.std.proofs.lemmas.List.{length-append, length-map}
 use Rattle.std.proofs.lemmas.Int.{ints}
-use Rattle.std.proofs.lemmas.Bool.{eq-eqb, ne_eqb, eqb-true, both_ways}
+use Rattle.std.proofs.lemmas.Bool.{eq-eqb, ne_eqb, eqb-true}
 use Rattle.words.specs.Lists.{up_from, below}
 use Rattle.words.proofs.Lists.{length-below}
-use Rattle.sheet.specs.Sheet.{Sheet, Loop, lblock, last_block}
-use Rattle.sheet.specs.Walk.{back, entry}
+use Rattle.sheet.specs.Sheet.{Sheet, lblock, last_block}
 use Rattle.sheet.specs.Conflict.{used, used_sets}
 use Rattle.sheet.specs.BlockTable.{Holds}
 use Rattle.sheet.specs.Rows.{Row, in_row, out_row, loop_row, fact_row, arrival_row, departure_row, set_row, miss_row, N, T, M, P, rows, coefficient, right_side, one_if, is_at, is_start, foreign}
-use Rattle.claim.specs.Items.{Edge, Fact, Node, START, at, END, Conflict}
+use Rattle.claim.specs.Items.{Edge, Node, START, at, END, Conflict}
 use Rattle.claim.specs.Certificate.{combined}
 use Rattle.claim.specs.Shares.{total, Multipliers, Sized, all, fact_share, loop_share, rank, share_of_source, share_of_target}
 use Rattle.claim.proofs.Weights.{combined_++, combined_map, combined_none, combined_same, combined_neg, combined_ones, in_range, at_one, at_kept}

@@ -1,20 +1,19 @@
 -- For the code that reads a certificate: one word after another. Assumes nothing.
-use Rattle.std.proofs.Common.{◌≡◌, ℕ, suc, ◌+◌, ◌-◌, ◌*◌, ◌^◌, ◌<◌, ◌≤◌, Bool, true, false, not, ◌&&◌, eqb, leb, List, [], ◌∷◌, length, get_or, take, drop, sym, refl, ap, ◌∙◌, subst, arith}
-use mathlib.Core.Option.{Option, none, some}
+use Rattle.std.proofs.Common.{◌≡◌, ℕ, suc, ◌+◌, ◌<◌, ◌≤◌, Bool, true, false, not, List, [], ◌∷◌, length, get_or, drop, sym, refl, ap, ◌∙◌, subst, arith}
+use mathlib.Core.Option.{none, some}
 use Rattle.std.proofs.lemmas.List.{drop_more, drop_all}
-use Rattle.std.proofs.lemmas.Bool.{eqb-true, ne_eqb, eq-eqb, le-leb, lt-leb, and_left, and_right, and_from}
+use Rattle.std.proofs.lemmas.Bool.{eqb-true, ne_eqb}
 use Rattle.words.specs.declared.refusal.WordFault.{WordFault}
 use Rattle.words.specs.declared.refusal.WordFault.TheVariants.{NotDue, EndsEarly, WrongEnd, OutOfLimit}
 use Rattle.words.specs.Faults.{word_refusal}
-use Rattle.words.specs.Taking.{NotTaken, counts_test, ends_test}
-use Rattle.words.specs.Words.{code, kind, payload, same_kind, one_of, within, fields, minus_bit, unused_bits, top_field, empty, refusal, not_due, ends_early, wrong_end, out_of_limit, wrong_pairs, wrong_sign, accepted, refused, Check, demand, first_failing}
-use Rattle.words.proofs.Words.{same_code, step_on, step_end, payload_below, high_field}
+use Rattle.words.specs.Taking.{NotTaken}
+use Rattle.words.specs.Words.{code, kind, payload, same_kind, one_of, refusal, not_due, wrong_pairs, accepted, refused, Check, demand, first_failing}
+use Rattle.words.proofs.Words.{same_code, step_on, step_end}
 use Rattle.words.proofs.Checks.{fails, passes}
 use Rattle.sheet.proofs.FirstFault.{step_refuses}
-use Rattle.claim.specs.Kinds.{Kind, CLAIM, HIGH, LOW, END, Refusal}
+use Rattle.claim.specs.Kinds.{Kind, END, Refusal}
 use Rattle.claim.specs.Certificate.{Certificate}
-use Rattle.claim.specs.ReadCertificate.{Stand, State, stands, at_claim, at_W, at_W_low, at_pair, at_low, due, barred, checks, demands, next, with_D, with_W, with_multiplier, signed, read_from}
-use Rattle.claim.specs.Parts.{multiplier}
+use Rattle.claim.specs.ReadCertificate.{Stand, State, stands, due, barred, checks, demands, next, read_from}
 
 pub kind_is : (j k : Kind) → same_kind j k ≡ true → j ≡ k
 kind_is j k e = same_code j k (eqb-true (code j) (code k) e)

@@ -1,7 +1,7 @@
 -- The judge passes exactly the certificates that pass. Assumes nothing.
 use Rattle.std.proofs.Common.{◌≡◌, ℕ, suc, ◌+◌, ◌*◌, ◌≤◌, Bool, true, false, cond, not, ◌||◌, T, ltb, List, [], ◌∷◌, length, ℤ, pos, ◌≤ℤ◌, sym, refl, subst, arith}
 use lib.Signed.{le_z}
-use Rattle.std.specs.List.{prefix_len, AllByRecursion as All}
+use Rattle.std.specs.List.{prefix_len, AllByRecursion}
 use Rattle.std.proofs.ByRecursion.{All-weaker}
 use Rattle.std.proofs.lemmas.Bool.{ltb-false, le-ltb, false≢true}
 use Rattle.sheet.specs.Rows.{Row, rows, columns, cost, at_most}
@@ -9,16 +9,16 @@ use Rattle.claim.specs.Certificate.{column_total, Passes, SignsRight}
 use Rattle.claim.specs.Judge.{passed, negative, low_column, low_claim, sign_tests, high_enough, claims_enough, judge, JudgesRight}
 
 -- no element is the first that does not pass
-all_pass : {A : Type 0} (p : A → Bool) (xs : List A) → length xs ≤ prefix_len p xs → All (λ x. p x ≡ true) xs
+all_pass : {A : Type 0} (p : A → Bool) (xs : List A) → length xs ≤ prefix_len p xs → AllByRecursion (λ x. p x ≡ true) xs
 all_pass p [] h = tt
 all_pass p (x ∷ xs) h = go (p x) refl h (λ l. all_pass p xs l)
   where
-    go : (b : Bool) → p x ≡ b → suc (length xs) ≤ cond b (1 + prefix_len p xs) 0 → (length xs ≤ prefix_len p xs → All (λ x. p x ≡ true) xs)
-        → (p x ≡ true) × All (λ x. p x ≡ true) xs
+    go : (b : Bool) → p x ≡ b → suc (length xs) ≤ cond b (1 + prefix_len p xs) 0 → (length xs ≤ prefix_len p xs → AllByRecursion (λ x. p x ≡ true) xs)
+        → (p x ≡ true) × AllByRecursion (λ x. p x ≡ true) xs
     go true e l more = (e, more (omega arith))
     go false e l more = absurd (omega arith)
 
-passes_all : {A : Type 0} (p : A → Bool) (xs : List A) → All (λ x. p x ≡ true) xs → length xs ≤ prefix_len p xs
+passes_all : {A : Type 0} (p : A → Bool) (xs : List A) → AllByRecursion (λ x. p x ≡ true) xs → length xs ≤ prefix_len p xs
 passes_all p [] h = omega arith
 passes_all p (x ∷ xs) h = rw h.0 (omega (arith, passes_all p xs h.1))
 
@@ -32,7 +32,7 @@ le_yes a b h = go (le_z a b) h.le
     go true x = refl
     go false x = absurd x
 
-signed_from : (ys : List ℤ) (rs : List Row) → length ys ≡ length rs → All (λ b. b ≡ true) (sign_tests ys rs) → SignsRight ys rs
+signed_from : (ys : List ℤ) (rs : List Row) → length ys ≡ length rs → AllByRecursion (λ b. b ≡ true) (sign_tests ys rs) → SignsRight ys rs
 signed_from [] [] e h = tt
 signed_from [] (r ∷ rs) e h = absurd (omega arith)
 signed_from (y ∷ ys) [] e h = absurd (omega arith)
@@ -42,7 +42,7 @@ signed_from (y ∷ ys) (r ∷ rs) e h = (go (at_most r) h.0, signed_from ys rs (
     go true t q = yes_le (pos 0) y t
     go false t q = absurd (false≢true q)
 
-signs_pass : (ys : List ℤ) (rs : List Row) → SignsRight ys rs → All (λ b. b ≡ true) (sign_tests ys rs)
+signs_pass : (ys : List ℤ) (rs : List Row) → SignsRight ys rs → AllByRecursion (λ b. b ≡ true) (sign_tests ys rs)
 signs_pass [] rs h = tt
 signs_pass (y ∷ ys) [] h = tt
 signs_pass (y ∷ ys) (r ∷ rs) h = (go (at_most r) h.0, signs_pass ys rs h.1)

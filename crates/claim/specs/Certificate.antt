@@ -1,6 +1,6 @@
 -- Certificates, and which pass. Assumes nothing.
 use Rattle.std.specs.Prelude.{◌≡◌, ℕ, ◌+◌, ◌-◌, ◌*◌, ◌<◌, true, List, [], ◌∷◌, ℤ, pos, ◌+ℤ◌, ◌*ℤ◌, ◌≤ℤ◌}
-use Rattle.std.specs.List.{AllByRecursion as All}
+use Rattle.std.specs.List.{AllByRecursion}
 use Rattle.sheet.specs.Sheet.{Sheet}
 use Rattle.claim.specs.Items.{Conflict}
 use Rattle.sheet.specs.Rows.{Row, Column, rows, columns, cost, coefficient, right_side, at_most}
@@ -31,5 +31,5 @@ column_total S C x = combined C.multipliers (rows S) (λ r. coefficient S r x)
 pub record Passes (S : Sheet) (cs : List Conflict) (C : Certificate) : Type 0 where
   pub scaled : 0 < C.D
   pub signed : SignsRight C.multipliers (rows S)
-  pub covered : All (λ x. pos (cost S x * C.D) ≤ℤ column_total S C x) (columns S cs)
+  pub covered : AllByRecursion (λ x. pos (cost S x * C.D) ≤ℤ column_total S C x) (columns S cs)
   pub claimed : combined C.multipliers (rows S) (right_side S) ≤ℤ pos (C.W * C.D + C.D - 1)

@@ -1,6 +1,6 @@
 -- The words of a certificate, and the laws of reading and judging them. Assumes nothing.
 use Rattle.std.specs.Prelude.{◌≡◌, ℕ, suc, ◌/◌, ◌%◌, ◌^◌, ◌<◌, ◌≤◌, ◌↔◌, List, [], ◌∷◌, ◌++◌, length, ℤ, pos, negsuc}
-use Rattle.std.specs.List.{AllByRecursion as All}
+use Rattle.std.specs.List.{AllByRecursion}
 use Rattle.words.specs.Lists.{joined}
 use Rattle.sheet.specs.Sheet.{Sheet, WellFormed}
 use Rattle.sheet.specs.Walk.{Lawful}
@@ -36,7 +36,7 @@ pub record CertificateFits (n : ℕ) (C : Certificate) : Type 0 where
   pub scale : (1 ≤ C.D) × (C.D ≤ 1048575)
   pub claim_fits : C.W < 2 ^ 40
   pub each_row : length C.multipliers ≡ n
-  pub multipliers_fit : All (λ y. magnitude y < 2 ^ 40) C.multipliers
+  pub multipliers_fit : AllByRecursion (λ y. magnitude y < 2 ^ 40) C.multipliers
   pub counted : length (claim_words C) < 2 ^ 28
 
 -- The words that are accepted are exactly those of the certificates that fit, and the certificate is read off them.

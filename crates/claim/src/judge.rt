@@ -1,6 +1,6 @@
 // Judging a certificate: its words, then signs, columns and the claim.
 ghost use Rattle.std.specs.Prelude.{◌≡◌, ◌^◌, ◌<◌, length, pos, IfOk, slice_index_or};
-ghost use Rattle.sheet.specs.Rows.{rows as row_List, at_most as says_at_most, right_side as right_side_of, in_row};
+ghost use Rattle.sheet.specs.Rows.{rows as row_list, at_most as says_at_most, right_side as right_side_of, in_row};
 ghost use Rattle.sheet.specs.View.{view};
 ghost use Rattle.claim.specs.Certificate.{combined};
 ghost use Rattle.claim.specs.Judge.{sign_tests};
@@ -20,8 +20,8 @@ use sheet::timing::Sheet;
 
 // Whether a row says `at most`: loops and facts, which follow one another, and misses, which come last.
 fn at_most(sheet: &Sheet, row: usize) -> bool
-    requires { row < length (row_List (view sheet.now)) }
-    ensures { result ≡ says_at_most (slice_index_or (row_List (view sheet.now)) row (in_row 0)) }
+    requires { row < length (row_list (view sheet.now)) }
+    ensures { result ≡ says_at_most (slice_index_or (row_list (view sheet.now)) row (in_row 0)) }
 {
     let blocks = sheet.blocks().len();
     if row < 2 * blocks {
@@ -35,8 +35,8 @@ fn at_most(sheet: &Sheet, row: usize) -> bool
 
 // The first at_most row whose multiplier is negative.
 fn negative_row(sheet: &Sheet, pairs: &[[u32; 2]]) -> Option<usize>
-    requires { length pairs.now ≡ length (row_List (view sheet.now)) }
-    ensures { FirstLow as_tested (sign_tests (multipliers pairs.now) (row_List (view sheet.now))) result }
+    requires { length pairs.now ≡ length (row_list (view sheet.now)) }
+    ensures { FirstLow as_tested (sign_tests (multipliers pairs.now) (row_list (view sheet.now))) result }
 {
     for (row, pair) in pairs.iter().enumerate() {
         if at_most(sheet, row) && !multiplier(pair).covers(Scaled::ZERO) {
@@ -62,7 +62,7 @@ fn sum(pairs: &[[u32; 2]]) -> Scaled
 // The right sides times the multipliers: block 0's in row, the last block's out row, and the set rows.
 fn right_side(sheet: &Sheet, rows: &Rows) -> Scaled
     requires { Sized (view sheet.now) (weights rows.now) }
-    ensures { result.0 ≡ combined (all (weights rows.now)) (row_List (view sheet.now)) (right_side_of (view sheet.now)) }
+    ensures { result.0 ≡ combined (all (weights rows.now)) (row_list (view sheet.now)) (right_side_of (view sheet.now)) }
 {
     let blocks = sheet.blocks().len();
     at(rows.ins, 0) + at(rows.outs, blocks - 1) + sum(rows.sets)

@@ -1,7 +1,7 @@
 -- The laws of a sheet's refusals. Assumes nothing.
 use Rattle.std.proofs.Common.{◌≡◌, ℕ, zero, suc, ◌+◌, ◌<◌, ◌≤◌, Bool, true, false, eqb, ◌≢◌, ◌⊎◌, List, [], ◌∷◌, ◌++◌, length, take, sym, refl, ap, ◌∙◌, subst, inl, inr, ⊎_elim, arith}
 use mathlib.Core.Option.{Option, none, some}
-use Rattle.std.specs.List.{AllByRecursion as All}
+use Rattle.std.specs.List.{AllByRecursion}
 use Rattle.std.proofs.lemmas.Bool.{false≢true}
 use Rattle.sheet.specs.Sheet.{Sheet, Loop}
 use Rattle.sheet.specs.Conflict.{used_sets}
@@ -34,7 +34,7 @@ pub lowest_first : LowestFirst
 lowest_first st w i rest = ascending (one_of (kind w) (due st.stand)) st.read (open_loop st.stand) (kind w) (payload w) i rest
 
 -- what holds of each check's refusal holds of the first that fails
-pub failing_one : (P : Refusal → Type 0) (cs : List Check) (r : Refusal) → All (λ c. P c.otherwise) cs → first_failing cs ≡ some r → P r
+pub failing_one : (P : Refusal → Type 0) (cs : List Check) (r : Refusal) → AllByRecursion (λ c. P c.otherwise) cs → first_failing cs ≡ some r → P r
 failing_one P [] r h e = let z : ◌≡◌ {A = ℕ} 0 1 = cc in absurd (omega arith)
 failing_one P (c ∷ cs) r h e = go c.holds e (λ e. failing_one P cs r h.1 e)
   where
@@ -78,7 +78,7 @@ record Fails (b : Bool) (S : Sheet) (o : Option Loop) (k : Kind) (p i : ℕ) (re
   at : ((r.place ≡ i) × ((us : List ℕ) → first_failing (demand b not_due i ∷ checks S o k p i us) ≡ some r))
       ⊎ ((r.place ≡ suc i) × (empty rest ≡ false) × ((us : List ℕ) → empty us ≡ false → first_failing (demand b not_due i ∷ checks S o k p i us) ≡ some r))
 
-here : (b : Bool) (S : Sheet) (o : Option Loop) (k : Kind) (p i : ℕ) (rest : List ℕ) (r : Refusal) → All (λ c. Here i c.otherwise) (demand b not_due i ∷ checks S o k p i rest)
+here : (b : Bool) (S : Sheet) (o : Option Loop) (k : Kind) (p i : ℕ) (rest : List ℕ) (r : Refusal) → AllByRecursion (λ c. Here i c.otherwise) (demand b not_due i ∷ checks S o k p i rest)
     → first_failing (demand b not_due i ∷ checks S o k p i rest) ≡ some r → ((us : List ℕ) → first_failing (demand b not_due i ∷ checks S o k p i us) ≡ some r) → Fails b S o k p i rest r
 here b S o k p i rest r h e all =
     let q = failing_one (Here i) (demand b not_due i ∷ checks S o k p i rest) r h e in

@@ -1,6 +1,6 @@
 -- The front of a search: how it grows, and what it has seen when it is done. Assumes nothing.
 use Rattle.std.proofs.Common.{◌≡◌, ℕ, suc, ◌+◌, ◌<◌, ◌≤◌, Bool, true, false, cond, not, ◌⊎◌, List, [], ◌∷◌, ◌++◌, length, get_or, set, replicate, count_by, sym, refl, ◌∙◌, subst, subst₂, inl, inr, ⊎_elim, arith, length-append, length-set}
-use Rattle.std.specs.List.{ContainsAt as Has, AllByRecursion as All}
+use Rattle.std.specs.List.{ContainsAt as Has, AllByRecursion}
 use Rattle.std.proofs.lemmas.List.{get_or-set_same, get_or-set_other, get_or_append_left, append-nil, length-replicate, get_or-replicate}
 use Rattle.std.proofs.ByRecursion.{All-append, All-weaker, has_append_left, has_append_right, has_push}
 use Rattle.std.proofs.lemmas.List.Sums.{sum_by-set, count_by-le-length}
@@ -69,7 +69,7 @@ module _ (S : Sheet) (s : ℕ) (u : Node) (seen : List Bool) (queue : List ℕ) 
   in_flags = omega (arith, f.sized)
 
   -- node k is seen, and queued if it is an l-block outside the set
-  front_more : (added : List ℕ) → length added ≤ 1 → All (λ q. (q ≡ k) × (k < length S.lblocks) × (in_set S s (at k) ≡ false)) added
+  front_more : (added : List ℕ) → length added ≤ 1 → AllByRecursion (λ q. (q ≡ k) × (k < length S.lblocks) × (in_set S s (at k) ≡ false)) added
       → (k < length S.lblocks → in_set S s (at k) ≡ false → Has added k) → Front S s u (set seen k true) (queue ++ added)
   front_more added short mine whole = record {
     sized = length-set seen k true ∙ f.sized;

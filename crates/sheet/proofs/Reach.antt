@@ -1,6 +1,6 @@
 -- The computed list of conflict edges is the list of exactly the conflict edges. Assumes nothing.
 use Rattle.std.proofs.Common.{◌≡◌, ℕ, zero, suc, ◌<◌, ◌≤◌, Bool, true, false, not, ◌&&◌, eqb, ◌⊎◌, List, [], ◌∷◌, ◌++◌, length, sym, refl, ap, ◌∙◌, subst, ap₂, subst₂, inl, inr, ⊎_elim, arith}
-use Rattle.std.specs.List.{ContainsAt as Has, AllByRecursion as All}
+use Rattle.std.specs.List.{ContainsAt as Has, AllByRecursion}
 use Rattle.std.proofs.lemmas.Bool.{eq-eqb, eqb-true, false≢true, and_parts, and_from, or_cases, or_left, or_right, cases_Bool, cases_eq, not_from_false, not-true, both_ways}
 use Rattle.std.proofs.ByRecursion.{all-has, All-map, All-append, All-weaker, all_has_itself, kept_by_passes, has_append_left, has_append_right}
 use Rattle.words.specs.Lists.{below, any}
@@ -50,12 +50,12 @@ next_complete xs u v us vs e = rw e (next_at us u v vs)
 
 module _ (S : Sheet) where
   -- what a block fetches is of that block
-  own : (b : ℕ) → All (λ v. ((lblock S v).block ≡ b) × (v < length S.lblocks)) (fetches S b)
+  own : (b : ℕ) → AllByRecursion (λ v. ((lblock S v).block ≡ b) × (v < length S.lblocks)) (fetches S b)
   own b = all_kept (λ v. v < length S.lblocks) _ (λ v. eqb (lblock S v).block b) (λ v l t. (eqb-true (lblock S v).block b t, l))
       (below (length S.lblocks)) (all_below (λ v. v < length S.lblocks) (length S.lblocks) (λ k h. h))
 
   own_at : (b u : ℕ) (us vs : List ℕ) → fetches S b ≡ us ++ (u ∷ vs) → ((lblock S u).block ≡ b) × (u < length S.lblocks)
-  own_at b u us vs e = (all_right (λ v. ((lblock S v).block ≡ b) × (v < length S.lblocks)) us (u ∷ vs) (subst (All _) e (own b))).0
+  own_at b u us vs e = (all_right (λ v. ((lblock S v).block ≡ b) × (v < length S.lblocks)) us (u ∷ vs) (subst (AllByRecursion _) e (own b))).0
 
   arrow_sound : (x y : Node) → arrow S x y ≡ true → Arrow S x y
   arrow_sound START START t = absurd (false≢true t)
@@ -92,7 +92,7 @@ module _ (S : Sheet) where
 
   enters : {x y : Node} → Arrow S x y → (y ≡ END) ⊎ ((k : ℕ) × (y ≡ at k) × (k < length S.lblocks))
   enters (starts {v = v} vs e) = inr (v, refl, (own_at 0 v [] vs e).1)
-  enters (next {u = u} {v = v} b us vs e) = inr (v, refl, (all_right (λ v. ((lblock S v).block ≡ b) × (v < length S.lblocks)) us (u ∷ v ∷ vs) (subst (All _) e (own b))).1.0.1)
+  enters (next {u = u} {v = v} b us vs e) = inr (v, refl, (all_right (λ v. ((lblock S v).block ≡ b) × (v < length S.lblocks)) us (u ∷ v ∷ vs) (subst (AllByRecursion _) e (own b))).1.0.1)
   enters (crosses {v = v} a b us vs h e f) = inr (v, refl, (own_at b v [] vs f).1)
   enters (ends us e) = inl refl
 
@@ -113,14 +113,14 @@ module _ (S : Sheet) where
       abbrev leads : ℕ → Node → Bool
       leads n v = found S s u (reached S s u n) v
 
-      found_sound : (xs : List ℕ) → All (λ x. Leads S s u (at x)) xs → (v : Node) → found S s u xs v ≡ true → Leads S s u v
+      found_sound : (xs : List ℕ) → AllByRecursion (λ x. Leads S s u (at x)) xs → (v : Node) → found S s u xs v ≡ true → Leads S s u v
       found_sound xs h v t = ⊎_elim (λ a. one (arrow_sound u v a))
           (λ f. let r = any_found (λ x. not (in_set S s (at x)) && arrow S (at x) v) xs f in
           let q = and_parts (not (in_set S s (at r.0))) (arrow S (at r.0) v) r.2 in
           more (all-has (λ x. Leads S s u (at x)) xs r.0 h r.1) (not-true (in_set S s (at r.0)) q.0) (arrow_sound (at r.0) v q.1))
           (or_cases (arrow S u v) _ t)
 
-      reached_sound : (n : ℕ) → All (λ x. Leads S s u (at x)) (reached S s u n)
+      reached_sound : (n : ℕ) → AllByRecursion (λ x. Leads S s u (at x)) (reached S s u n)
       reached_sound zero = tt
       reached_sound (suc n) =
           all_kept (λ v. Unit {0}) (λ x. Leads S s u (at x)) (λ v. found S s u (reached S s u n) (at v))
@@ -201,7 +201,7 @@ module _ (S : Sheet) where
 
   -- the list
   module _ (s : ℕ) where
-    members_in : All (λ u. in_set S s u ≡ true) (members S s)
+    members_in : AllByRecursion (λ u. in_set S s u ≡ true) (members S s)
     members_in = All-map (λ u. in_set S s u ≡ true) at (set_lblocks S s) (kept_by_passes (λ v. in_set S s (at v)) (below (length S.lblocks)))
 
     has_member : (k : ℕ) → k < length S.lblocks → in_set S s (at k) ≡ true → Has (members S s) (at k)
@@ -215,13 +215,13 @@ module _ (S : Sheet) where
     abbrev Target : Node → Type 0
     Target v = (v ≡ END) ⊎ (in_set S s v ≡ true)
 
-    sources : All Source (START ∷ members S s)
+    sources : AllByRecursion Source (START ∷ members S s)
     sources = (inl refl, All-weaker (λ u. in_set S s u ≡ true) Source (λ u t. inr t) (members S s) members_in)
 
-    targets : All Target (members S s ++ (END ∷ []))
+    targets : AllByRecursion Target (members S s ++ (END ∷ []))
     targets = All-append Target (members S s) (END ∷ []) (All-weaker (λ u. in_set S s u ≡ true) Target (λ u t. inr t) (members S s) members_in) (inl refl, tt)
 
-    sound_of : Has (used_sets S) s → All (IsConflict S) (conflicts_of S s)
+    sound_of : Has (used_sets S) s → AllByRecursion (IsConflict S) (conflicts_of S s)
     sound_of used =
         all_joined (IsConflict S) (conflicts_from S s) (START ∷ members S s)
         (All-weaker Source _ (λ u l. All-map (IsConflict S) (λ v. record { set = s; from = u; to = v }) (leads_to S s u)
@@ -251,7 +251,7 @@ module _ (S : Sheet) where
         (has_kept (conflicting S s u) (members S s ++ (END ∷ [])) v (has_target u v r p) (conflicting_complete s u p)))
 
     -- in order
-    places : All (λ v. v < length S.lblocks) (set_lblocks S s)
+    places : AllByRecursion (λ v. v < length S.lblocks) (set_lblocks S s)
     places = all_kept (λ v. v < length S.lblocks) (λ v. v < length S.lblocks) (λ v. in_set S s (at v)) (λ v l t. l) (below (length S.lblocks))
         (all_below (λ v. v < length S.lblocks) (length S.lblocks) (λ k h. h))
 
@@ -271,20 +271,20 @@ module _ (S : Sheet) where
         sorted_++ (λ x y. to_rank S x < to_rank S y) (members S s) (END ∷ [])
         (sorted_map (λ x y. to_rank S x < to_rank S y) at (set_lblocks S s) sorted_places)
         (tt, tt)
-        (All-map (λ x. All (λ y. to_rank S x < to_rank S y) (END ∷ [])) at (set_lblocks S s)
+        (All-map (λ x. AllByRecursion (λ y. to_rank S x < to_rank S y) (END ∷ [])) at (set_lblocks S s)
         (All-weaker _ _ (λ v l. (l, tt)) (set_lblocks S s) places))
 
     -- where an edge of a part of the list comes from
-    every : {A : Type 0} (P : A → Type 0) → ((x : A) → P x) → (xs : List A) → All P xs
+    every : {A : Type 0} (P : A → Type 0) → ((x : A) → P x) → (xs : List A) → AllByRecursion P xs
     every P f [] = tt
     every P f (x ∷ xs) = (f x, every P f xs)
 
-    of_from : (u : Node) → All (λ c. (c.set ≡ s) × (c.from ≡ u)) (conflicts_from S s u)
+    of_from : (u : Node) → AllByRecursion (λ c. (c.set ≡ s) × (c.from ≡ u)) (conflicts_from S s u)
     of_from u =
         All-map (λ c. (c.set ≡ s) × (c.from ≡ u)) (λ v. record { set = s; from = u; to = v }) (leads_to S s u)
         (every _ (λ v. (refl, refl)) (leads_to S s u))
 
-    of_set : All (λ c. c.set ≡ s) (conflicts_of S s)
+    of_set : AllByRecursion (λ c. c.set ≡ s) (conflicts_of S s)
     of_set = all_joined (λ c. c.set ≡ s) (conflicts_from S s) (START ∷ members S s)
         (every _ (λ u. All-weaker _ _ (λ c h. h.0) (conflicts_from S s u) (of_from u)) (START ∷ members S s))
 
@@ -313,7 +313,7 @@ module _ (S : Sheet) where
       (used_sets S) (every 0 _ (λ v. tt) (used_sets S)) (sorted_kept ◌<◌ (used S) (below S.sets) (sorted_below S.sets)))
       (every 0 _ sorted_of (used_sets S))
 
-  sound_all : All (IsConflict S) (conflicts S)
+  sound_all : AllByRecursion (IsConflict S) (conflicts S)
   sound_all = all_joined (IsConflict S) (conflicts_of S) (used_sets S) (All-weaker _ _ (λ s h. sound_of s h) (used_sets S) (all_has_itself (used_sets S)))
 
 pub lists_conflicts : ListsConflicts

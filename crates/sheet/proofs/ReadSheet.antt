@@ -1,7 +1,7 @@
 -- The sheets that are accepted fit, and their words are the words read. Assumes nothing.
 use Rattle.std.proofs.Common.{◌≡◌, ℕ, suc, ◌+◌, ◌-◌, ◌^◌, ◌<◌, ◌≤◌, Bool, true, false, cond, not, eqb, ltb, leb, ◌≢◌, List, [], ◌∷◌, ◌++◌, map, length, sum_by, sym, refl, ap, ◌∙◌, subst, ap₂, ⊎_elim, add-zero, zero-add, arith}
 use mathlib.Core.Option.{Option, none, some}
-use Rattle.std.specs.List.{ContainsAt as Has, AllByRecursion as All}
+use Rattle.std.specs.List.{ContainsAt as Has, AllByRecursion}
 use Rattle.std.proofs.lemmas.List.{append_assoc, append-nil, length-append, length_push, map-append}
 use Rattle.std.proofs.ByRecursion.{All-push, All-weaker, All-get_or, All-map}
 use Rattle.std.proofs.lemmas.List.Sums.{sum_by_push}
@@ -33,7 +33,7 @@ pub record Filling (n sets blocks : ℕ) (vs : List LBlock) : Type 0 where
   pub lacking : 1 ≤ n
   pub room : length (of_block vs (blocks - 1)) + n ≤ 16
   pub in_order : vs ≡ joined (of_block vs) (below blocks)
-  pub each : All (LBlockFits sets blocks) vs
+  pub each : AllByRecursion (LBlockFits sets blocks) vs
 
 -- a loop underway, after the loops ls
 pub record LoopSoFar (blocks : ℕ) (es : List Edge) (ls : List Loop) (l : Loop) : Type 0 where
@@ -42,9 +42,9 @@ pub record LoopSoFar (blocks : ℕ) (es : List Edge) (ls : List Loop) (l : Loop)
   pub few_backs : sum_by (λ l. length l.backs) (ls ++ (l ∷ [])) ≤ 64
   pub header_block : l.header < blocks
   pub bound_fits : l.bound < 2 ^ 14
-  pub back_edges : All (λ b. Has es (edge b l.header)) l.backs
+  pub back_edges : AllByRecursion (λ b. Has es (edge b l.header)) l.backs
   pub distinct : Distinct l.backs
-  pub new : All (λ h. h ≢ l.header) (map (λ l. l.header) ls)
+  pub new : AllByRecursion (λ h. h ≢ l.header) (map (λ l. l.header) ls)
 
 pub record Bare (S : Sheet) : Type 0 where
   pub no_edges : S.edges ≡ []
@@ -137,7 +137,7 @@ head_step S p h l u = (
       few_lblocks = omega (arith, ap length h.1);
       filled = λ b k. absurd (omega (arith, h.0));
       in_order = h.1 ∙ sym (ap (λ n. joined (of_block S.lblocks) (below n)) h.0);
-      each = subst (λ z. All (LBlockFits p S.blocks) z) (sym h.1) tt;
+      each = subst (λ z. AllByRecursion (LBlockFits p S.blocks) z) (sym h.1) tt;
     },
     record { no_edges = h.2.no_edges; no_loops = h.2.no_loops; no_facts = h.2.no_facts },
   ),
@@ -214,7 +214,7 @@ module _ (n s t : ℕ) (S : Sheet) (p : ℕ) (h : Holds (at_cost n s t) S) (pb :
       ∙ sym (joined_below (of_block (S.lblocks ++ (lblock_of (last_block S) s t p ∷ []))) (last_block S))
       ∙ ap (λ k. joined (of_block (S.lblocks ++ (lblock_of (last_block S) s t p ∷ []))) (below k)) (sym blocks_is)
 
-  all_fit : All (LBlockFits S.sets S.blocks) (S.lblocks ++ (lblock_of (last_block S) s t p ∷ []))
+  all_fit : AllByRecursion (LBlockFits S.sets S.blocks) (S.lblocks ++ (lblock_of (last_block S) s t p ∷ []))
   all_fit = All-push (LBlockFits S.sets S.blocks) S.lblocks (lblock_of (last_block S) s t p) h.0.each v_fits
 
   cost_words : (m : ℕ) → suc m ≡ n → filling_words m (with_lblock S (lblock_of (last_block S) s t p)) ≡ so_far (at_cost n s t) S ++ (word COST p ∷ [])
@@ -281,7 +281,7 @@ module _ (n s t : ℕ) (S : Sheet) (p : ℕ) (h : Holds (at_cost n s t) S) (pb :
 
 -- EDGE
 edge_step : (S : Sheet) (p i : ℕ) (rest : List ℕ) → PartsFit S → S.loops ≡ [] → S.facts ≡ []
-    → All (λ c. c.holds ≡ true) (checks S none EDGE p i rest)
+    → AllByRecursion (λ c. c.holds ≡ true) (checks S none EDGE p i rest)
     → Holds at_edges (with_edge S (edge_of p)) × (sheet_words (with_edge S (edge_of p)) ≡ sheet_words S ++ (word EDGE p ∷ []))
 edge_step S p i rest f nl nf h = (
   (
@@ -336,7 +336,7 @@ loop_step S p f nf few hb new = (
 )
 
 -- BACK
-back_step : (S : Sheet) (l : Loop) (p i : ℕ) (rest : List ℕ) → Holds (in_loop l) S → All (λ c. c.holds ≡ true) (checks S (some l) BACK p i rest) → Step (in_loop l) S BACK p
+back_step : (S : Sheet) (l : Loop) (p i : ℕ) (rest : List ℕ) → Holds (in_loop l) S → AllByRecursion (λ c. c.holds ≡ true) (checks S (some l) BACK p i rest) → Step (in_loop l) S BACK p
 back_step S l p i rest h c = (
   (
     h.0,
@@ -431,7 +431,7 @@ closed_facts S none = refl
 closed_facts S (some l) = refl
 
 loop_at : (d : Stand) (S : Sheet) (p i : ℕ) (rest : List ℕ) → Holds d S → one_of END (due d) ≡ true → S.facts ≡ []
-    → All (λ c. c.holds ≡ true) (checks S (open_loop d) LOOP p i rest) → Step d S LOOP p
+    → AllByRecursion (λ c. c.holds ≡ true) (checks S (open_loop d) LOOP p i rest) → Step d S LOOP p
 loop_at d S p i rest h o nf c =
     let T : Sheet = closed S (open_loop d) in
     let k = closing d S h o c.1.0 in
@@ -441,7 +441,7 @@ loop_at d S p i rest h o nf c =
     (r.0, r.1 ∙ ap (λ z. z ++ (word LOOP p ∷ [])) (sym k.1))
 
 fact_at : (d : Stand) (S : Sheet) (p i : ℕ) (rest : List ℕ) → Holds d S → one_of END (due d) ≡ true
-    → All (λ c. c.holds ≡ true) (checks S (open_loop d) FACT p i rest) → Step d S FACT p
+    → AllByRecursion (λ c. c.holds ≡ true) (checks S (open_loop d) FACT p i rest) → Step d S FACT p
 fact_at d S p i rest h o c =
     let T : Sheet = closed S (open_loop d) in
     let k = closing d S h o c.1.0 in
@@ -454,7 +454,7 @@ fact_at d S p i rest h o c =
 module _ (S : Sheet) (p i : ℕ) (rest : List ℕ) (b : p < 2 ^ 28) where
   -- a word of kind k that meets its checks and is not END
   abbrev pub Goes : Stand → Kind → Type 0
-  Goes d k = All (λ c. c.holds ≡ true) (checks S (open_loop d) k p i rest) → same_kind k END ≡ false → Step d S k p
+  Goes d k = AllByRecursion (λ c. c.holds ≡ true) (checks S (open_loop d) k p i rest) → same_kind k END ≡ false → Step d S k p
 
   no_end : (d : Stand) → Goes d END
   no_end d c n = absurd (false≢true (sym n))
@@ -516,7 +516,7 @@ finished_is T R e = go (passing T (used_sets T) 0) refl e
 
 -- END
 done : (d : Stand) (S R : Sheet) (p i : ℕ) (rest : List ℕ) → Holds d S → one_of END (due d) ≡ true
-    → All (λ c. c.holds ≡ true) (checks S (open_loop d) END p i rest) → i ≡ length (so_far d S)
+    → AllByRecursion (λ c. c.holds ≡ true) (checks S (open_loop d) END p i rest) → i ≡ length (so_far d S)
     → finished (closed S (open_loop d)) ≡ accepted R
     → (so_far d S ++ (word END p ∷ rest) ≡ encode R) × Fits R
 done d S R p i rest h o c li e = go rest c.1.1.0
@@ -562,7 +562,7 @@ module _ (R : Sheet) where
       ⊎_elim
       (λ x.
       let k = end_kind (kind w) x.0 in
-      let f = done d S R (payload w) i rest inv (subst (λ k. one_of k (due d) ≡ true) k h.0) (subst (λ k. All (λ c. c.holds ≡ true) (checks S (open_loop d) k (payload w) i rest)) k h.1) li x.1 in
+      let f = done d S R (payload w) i rest inv (subst (λ k. one_of k (due d) ≡ true) k h.0) (subst (λ k. AllByRecursion (λ c. c.holds ≡ true) (checks S (open_loop d) k (payload w) i rest)) k h.1) li x.1 in
       (ap (λ z. so_far d S ++ (z ∷ rest)) (q ∙ ap (λ k. word k (payload w)) k) ∙ f.0, f.1))
       (λ x.
       let s = goes S (payload w) i rest (payload_below w) d (kind w) inv (is_one_of (kind w) (due d) h.0) h.1 x.0 in

@@ -1,6 +1,6 @@
 -- Lists of a sheet with one more at the end. Assumes nothing.
 use Rattle.std.proofs.Common.{◌≡◌, ℕ, zero, suc, ◌+◌, ◌<◌, ◌≤◌, Bool, true, false, cond, eqb, ◌≢◌, List, [], ◌∷◌, ◌++◌, map, length, get_or, filter, sym, refl, ap, ◌∙◌, ap₂, add-zero, arith}
-use Rattle.std.specs.List.{AllByRecursion as All}
+use Rattle.std.specs.List.{AllByRecursion}
 use Rattle.std.proofs.lemmas.List.{append-nil, length-map}
 use Rattle.std.proofs.lemmas.List.Elements.{filter-append}
 use Rattle.std.proofs.lemmas.Bool.{eq-eqb, ne_eqb, eqb-true, and_parts, and_from}
@@ -21,15 +21,15 @@ below_push n = up_from_push 0 n ∙ ap (λ k. below n ++ (k ∷ [])) (omega arit
 pub joined_below : {B : Type 0} (f : ℕ → List B) (n : ℕ) → joined f (below (suc n)) ≡ joined f (below n) ++ f n
 joined_below f n = ap (joined f) (below_push n) ∙ joined_push f (below n) n
 
-pub joined_same : {A B : Type 0} (f g : A → List B) (xs : List A) → All (λ x. f x ≡ g x) xs → joined f xs ≡ joined g xs
+pub joined_same : {A B : Type 0} (f g : A → List B) (xs : List A) → AllByRecursion (λ x. f x ≡ g x) xs → joined f xs ≡ joined g xs
 joined_same f g [] h = refl
 joined_same f g (x ∷ xs) h = ap₂ ◌++◌ h.0 (joined_same f g xs h.1)
 
-pub distinct_push : {A : Type 0} (xs : List A) (x : A) → Distinct xs → All (λ y. y ≢ x) xs → Distinct (xs ++ (x ∷ []))
+pub distinct_push : {A : Type 0} (xs : List A) (x : A) → Distinct xs → AllByRecursion (λ y. y ≢ x) xs → Distinct (xs ++ (x ∷ []))
 distinct_push [] x d h = (tt, tt)
 distinct_push (y ∷ ys) x d h = (more ys d.0, distinct_push ys x d.1 h.1)
   where
-    more : (zs : List _) → All (λ z. y ≢ z) zs → All (λ z. y ≢ z) (zs ++ (x ∷ []))
+    more : (zs : List _) → AllByRecursion (λ z. y ≢ z) zs → AllByRecursion (λ z. y ≢ z) (zs ++ (x ∷ []))
     more [] k = (h.0, tt)
     more (z ∷ zs) k = (k.0, more zs k.1)
 
@@ -46,7 +46,7 @@ module _ (vs : List LBlock) (v : LBlock) where
   joined_others f n l = joined_same _ _ (below n) (all_below (λ b. f (of_block (vs ++ (v ∷ [])) b) ≡ f (of_block vs b)) n (λ b u. ap f (of_other b (λ e. omega arith))))
 
 -- no l-block is in a block past all
-pub of_none : (vs : List LBlock) (b : ℕ) → All (λ v. v.block < b) vs → of_block vs b ≡ []
+pub of_none : (vs : List LBlock) (b : ℕ) → AllByRecursion (λ v. v.block < b) vs → of_block vs b ≡ []
 of_none [] b h = refl
 of_none (v ∷ vs) b h = rw (ne_eqb v.block b (λ e. omega (arith, h.0))) (of_none vs b h.1)
 

@@ -1,7 +1,7 @@
 -- A sheet that fits is read off its words. Assumes nothing.
 use Rattle.std.proofs.Common.{◌≡◌, ℕ, zero, suc, ◌+◌, ◌-◌, ◌*◌, ◌/◌, ◌%◌, ◌^◌, ◌<◌, ◌≤◌, Bool, true, false, not, eqb, ltb, leb, ◌≢◌, List, [], ◌∷◌, ◌++◌, map, length, sum_by, sym, refl, ap, ◌∙◌, subst, ap₂, zero-add, arith}
 use mathlib.Core.Option.{Option, none, some}
-use Rattle.std.specs.List.{ContainsAt as Has, AllByRecursion as All}
+use Rattle.std.specs.List.{ContainsAt as Has, AllByRecursion}
 use Rattle.std.proofs.lemmas.List.{append_assoc, append-nil, length-append, length_push, length-map, map-append}
 use Rattle.std.proofs.ByRecursion.{All-weaker, all_kept_by, kept_by_passes, all-has}
 use Rattle.std.proofs.lemmas.List.Sums.{sum_by_push, sum_by-append, sum_by-cons}
@@ -35,16 +35,16 @@ runs_on {a} {b} {c} {ws} {us} f g = record {
 }
 
 module _ (d : Stand) (S : Sheet) (k : Kind) (p : ℕ) (b : p < 2 ^ 28) where
-  met : (i : ℕ) (rest : List ℕ) → one_of k (due d) ≡ true → All (λ c. c.holds ≡ true) (checks S (open_loop d) k p i rest)
+  met : (i : ℕ) (rest : List ℕ) → one_of k (due d) ≡ true → AllByRecursion (λ c. c.holds ≡ true) (checks S (open_loop d) k p i rest)
       → first_failing (demands (stands d S) (word k p) i rest) ≡ none
   met i rest o h =
       none_fails (demands (stands d S) (word k p) i rest) (
         subst (λ j. one_of j (due d) ≡ true) (sym (kind_word k p b)) o,
-        subst (λ j. All (λ c. c.holds ≡ true) (checks S (open_loop d) j (payload (word k p)) i rest)) (sym (kind_word k p b))
-            (subst (λ x. All (λ c. c.holds ≡ true) (checks S (open_loop d) k x i rest)) (sym (payload_word k p b)) h),
+        subst (λ j. AllByRecursion (λ c. c.holds ≡ true) (checks S (open_loop d) j (payload (word k p)) i rest)) (sym (kind_word k p b))
+            (subst (λ x. AllByRecursion (λ c. c.holds ≡ true) (checks S (open_loop d) k x i rest)) (sym (payload_word k p b)) h),
       )
 
-  run_word : one_of k (due d) ≡ true → ((i : ℕ) (rest : List ℕ) → All (λ c. c.holds ≡ true) (checks S (open_loop d) k p i rest)) → same_kind k END ≡ false
+  run_word : one_of k (due d) ≡ true → ((i : ℕ) (rest : List ℕ) → AllByRecursion (λ c. c.holds ≡ true) (checks S (open_loop d) k p i rest)) → same_kind k END ≡ false
       → Runs (stands d S) (word k p ∷ []) (next d S k p)
   run_word o h ne = record {
     on = λ rest i.
@@ -78,7 +78,7 @@ run_lblock n S v s64 e f few =
     (run_word (at_cost n (set_field (fields 20 v.set v.tag)) (tag_field (fields 20 v.set v.tag))) S COST (fields 14 v.hit v.extra)
     (omega (arith, f.hit_fits, f.extra_fits)) refl (λ i rest. tt) refl))
 
-run_lblocks : (S : Sheet) (v : LBlock) (vs : List LBlock) → S.sets ≤ 64 → All (λ v. (v.block ≡ last_block S) × LBlockFits S.sets S.blocks v) (v ∷ vs)
+run_lblocks : (S : Sheet) (v : LBlock) (vs : List LBlock) → S.sets ≤ 64 → AllByRecursion (λ v. (v.block ≡ last_block S) × LBlockFits S.sets S.blocks v) (v ∷ vs)
     → length S.lblocks + suc (length vs) ≤ 512
     → Runs (stands (at_lblock (suc (length vs))) S) (joined lblock_words (v ∷ vs)) (stands at_blocks (with_lblocks S (v ∷ vs)))
 run_lblocks S v [] s h few = run_lblock 1 S v s h.0.0 h.0.1 (omega arith)
@@ -95,7 +95,7 @@ run_lblocks S v (u ∷ vs) s h few =
 
 -- blocks
 run_block : (d : Stand) (S : Sheet) (vs : List LBlock) → one_of BLOCK (due d) ≡ true → S.blocks < 128 → 1 ≤ length vs → length vs ≤ 16 → S.sets ≤ 64
-    → All (λ v. (v.block ≡ S.blocks) × LBlockFits S.sets (suc S.blocks) v) vs → length S.lblocks + length vs ≤ 512
+    → AllByRecursion (λ v. (v.block ≡ S.blocks) × LBlockFits S.sets (suc S.blocks) v) vs → length S.lblocks + length vs ≤ 512
     → Runs (stands d S) (block_words vs) (stands at_blocks (with_lblocks (with_block S) vs))
 run_block d S [] o few l u s h r = absurd (omega arith)
 run_block d S (v ∷ vs) o few l u s h r =
@@ -155,26 +155,26 @@ module _ (S : Sheet) (f : BlocksFit S.sets S.blocks S.lblocks) where
       (run_block (after n) (front S n) (of_block S.lblocks n) (after_due n) (omega (arith, f.few_blocks)) (f.filled n h).0 (f.filled n h).1 f.few_sets
       (own S.lblocks f.each) (front_few n h))))
     where
-      own : (vs : List LBlock) → All (LBlockFits S.sets S.blocks) vs → All (λ v. (v.block ≡ n) × LBlockFits S.sets (suc n) v) (of_block vs n)
+      own : (vs : List LBlock) → AllByRecursion (LBlockFits S.sets S.blocks) vs → AllByRecursion (λ v. (v.block ≡ n) × LBlockFits S.sets (suc n) v) (of_block vs n)
       own vs k = both (of_block vs n) (kept_by_passes (λ v. eqb v.block n) vs) (all_kept_by (λ v. eqb v.block n) (LBlockFits S.sets S.blocks) vs k)
         where
-          both : (us : List LBlock) → All (λ v. eqb v.block n ≡ true) us → All (LBlockFits S.sets S.blocks) us → All (λ v. (v.block ≡ n) × LBlockFits S.sets (suc n) v) us
+          both : (us : List LBlock) → AllByRecursion (λ v. eqb v.block n ≡ true) us → AllByRecursion (LBlockFits S.sets S.blocks) us → AllByRecursion (λ v. (v.block ≡ n) × LBlockFits S.sets (suc n) v) us
           both [] a b = tt
           both (u ∷ us) a b =
               let e = eqb-true u.block n a.0 in
               ((e, record { in_block = omega arith; in_set = b.0.in_set; tag_fits = b.0.tag_fits; hit_fits = b.0.hit_fits; extra_fits = b.0.extra_fits }), both us a.1 b.1)
 
 -- no element passes
-any_false : {A : Type 0} (p : A → Bool) (xs : List A) → All (λ x. p x ≡ false) xs → any p xs ≡ false
+any_false : {A : Type 0} (p : A → Bool) (xs : List A) → AllByRecursion (λ x. p x ≡ false) xs → any p xs ≡ false
 any_false p [] h = refl
 any_false p (x ∷ xs) h = or_from (p x) (any p xs) h.0 (any_false p xs h.1)
 
 -- an element is apart from those before it
-distinct_mid : {A : Type 0} (xs : List A) (y : A) (ys : List A) → Distinct (xs ++ (y ∷ ys)) → All (λ x. x ≢ y) xs
+distinct_mid : {A : Type 0} (xs : List A) (y : A) (ys : List A) → Distinct (xs ++ (y ∷ ys)) → AllByRecursion (λ x. x ≢ y) xs
 distinct_mid [] y ys d = tt
 distinct_mid (x ∷ xs) y ys d = (first xs d.0, distinct_mid xs y ys d.1)
   where
-    first : (zs : List _) → All (λ z. x ≢ z) (zs ++ (y ∷ ys)) → x ≢ y
+    first : (zs : List _) → AllByRecursion (λ z. x ≢ z) (zs ++ (y ∷ ys)) → x ≢ y
     first [] k = k.0
     first (z ∷ zs) k = first zs k.1
 
@@ -202,7 +202,7 @@ record RunEdges (d : Stand) (S : Sheet) (es : List Edge) : Type 0 where
   no_loop : open_loop stand ≡ none
   runs : Runs (stands d S) (map edge_word es) (stands stand (with_edges S es))
 
-run_edge : (d : Stand) (S : Sheet) (e : Edge) → one_of EDGE (due d) ≡ true → S.blocks ≤ 128 → EdgeFits S.blocks e → length S.edges < 512 → All (λ x. x ≢ e) S.edges
+run_edge : (d : Stand) (S : Sheet) (e : Edge) → one_of EDGE (due d) ≡ true → S.blocks ≤ 128 → EdgeFits S.blocks e → length S.edges < 512 → AllByRecursion (λ x. x ≢ e) S.edges
     → Runs (stands d S) (edge_word e ∷ []) (stands at_edges (with_edge S e))
 run_edge d S e o m f few new =
     subst (λ x. Runs (stands d S) (edge_word e ∷ []) (stands at_edges (with_edge S x))) back
@@ -234,7 +234,7 @@ run_edge d S e o m f few new =
     back = ap₂ edge u l
 
 run_edges : (d : Stand) (S : Sheet) (es : List Edge) → one_of EDGE (due d) ≡ true → one_of LOOP (due d) ≡ true → one_of FACT (due d) ≡ true → one_of END (due d) ≡ true → open_loop d ≡ none
-    → S.blocks ≤ 128 → All (EdgeFits S.blocks) es → length S.edges + length es ≤ 512 → Distinct (S.edges ++ es) → RunEdges d S es
+    → S.blocks ≤ 128 → AllByRecursion (EdgeFits S.blocks) es → length S.edges + length es ≤ 512 → Distinct (S.edges ++ es) → RunEdges d S es
 run_edges d S [] oe ol of oend nl m f few dis = record {
   stand = d;
   loop_due = ol;
@@ -260,7 +260,7 @@ run_edges d S (e ∷ es) oe ol of oend nl m f few dis =
 abbrev with_backs : Loop → List ℕ → Loop
 with_backs l bs = record { header = l.header; bound = l.bound; backs = l.backs ++ bs }
 
-run_backs : (S : Sheet) (l : Loop) (bs : List ℕ) → S.blocks ≤ 128 → All (EdgeFits S.blocks) S.edges → All (λ b. Has S.edges (edge b l.header)) bs → Distinct (l.backs ++ bs)
+run_backs : (S : Sheet) (l : Loop) (bs : List ℕ) → S.blocks ≤ 128 → AllByRecursion (EdgeFits S.blocks) S.edges → AllByRecursion (λ b. Has S.edges (edge b l.header)) bs → Distinct (l.backs ++ bs)
     → sum_by (λ l. length l.backs) S.loops + (length l.backs + length bs) ≤ 64
     → Runs (stands (in_loop l) S) (map (word BACK) bs) (stands (in_loop (with_backs l bs)) S)
 run_backs S l [] m f h d few = subst (λ z. Runs (stands (in_loop l) S) [] (stands (in_loop (record { header = l.header; bound = l.bound; backs = z })) S)) (sym (append-nil l.backs)) runs_none
@@ -287,8 +287,8 @@ some_not_empty (b ∷ bs) h = refl
 whole_is : (S : Sheet) (l : Loop) → LoopFits S.blocks S.edges l → whole S (some l) ≡ true
 whole_is S l f = and_from (not (empty l.backs)) (any (entry l) S.edges) (some_not_empty l.backs f.some_back) (any_has (entry l) S.edges f.entered.0 f.entered.1 f.entered.2)
 
-run_loop : (d : Stand) (T U : Sheet) (l : Loop) → Ready LOOP d T U → U.blocks ≤ 128 → All (EdgeFits U.blocks) U.edges → LoopFits U.blocks U.edges l
-    → length U.loops < 32 → sum_by (λ l. length l.backs) U.loops + length l.backs ≤ 64 → All (λ x. x.header ≢ l.header) U.loops
+run_loop : (d : Stand) (T U : Sheet) (l : Loop) → Ready LOOP d T U → U.blocks ≤ 128 → AllByRecursion (EdgeFits U.blocks) U.edges → LoopFits U.blocks U.edges l
+    → length U.loops < 32 → sum_by (λ l. length l.backs) U.loops + length l.backs ≤ 64 → AllByRecursion (λ x. x.header ≢ l.header) U.loops
     → Runs (stands d T) (loop_words l) (stands (in_loop l) U)
 run_loop d T U l r m fe f few backs new =
     runs_on {ws = word LOOP (fields 14 l.header l.bound) ∷ []}
@@ -329,7 +329,7 @@ record RunItems (k : Kind) (d : Stand) (T : Sheet) (ws : List ℕ) (U : Sheet) :
   ready : Ready k stand read U
   runs : Runs (stands d T) ws (stands stand read)
 
-run_loops : (d : Stand) (T U : Sheet) (ls : List Loop) → Ready LOOP d T U → U.blocks ≤ 128 → All (EdgeFits U.blocks) U.edges → All (LoopFits U.blocks U.edges) ls
+run_loops : (d : Stand) (T U : Sheet) (ls : List Loop) → Ready LOOP d T U → U.blocks ≤ 128 → AllByRecursion (EdgeFits U.blocks) U.edges → AllByRecursion (LoopFits U.blocks U.edges) ls
     → length U.loops + length ls ≤ 32 → sum_by (λ l. length l.backs) (U.loops ++ ls) ≤ 64 → Distinct (map (λ l. l.header) (U.loops ++ ls))
     → RunItems LOOP d T (joined loop_words ls) (with_loops U ls)
 run_loops d T U [] r m fe f few backs dis = record {
@@ -398,7 +398,7 @@ run_fact d T U f r m k few =
     facts_same : U.facts ≡ T.facts
     facts_same = ap (λ V. V.facts) (sym r.is) ∙ closed_facts T (open_loop d)
 
-run_facts : (d : Stand) (T U : Sheet) (fs : List Fact) → Ready FACT d T U → U.blocks ≤ 128 → All (FactFits U.blocks) fs → length U.facts + length fs ≤ 32
+run_facts : (d : Stand) (T U : Sheet) (fs : List Fact) → Ready FACT d T U → U.blocks ≤ 128 → AllByRecursion (FactFits U.blocks) fs → length U.facts + length fs ≤ 32
     → RunItems FACT d T (map fact_word fs) (with_facts U fs)
 run_facts d T U [] r m f few = record {
   stand = d;

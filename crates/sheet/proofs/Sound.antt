@@ -3,7 +3,7 @@ use Rattle.std.proofs.Common.{◌≡◌, ℕ, zero, suc, ◌+◌, ◌<◌, ◌�
 use mathlib.Core.Logic.{∥∥₁_elim}
 use mathlib.Core.HLevel.{⊥_prop}
 use native.Mathlib.Bridge.{le_prop}
-use Rattle.std.specs.List.{AllByRecursion as All}
+use Rattle.std.specs.List.{AllByRecursion}
 use Rattle.std.proofs.ByRecursion.{All-get_or, All-from_get_or}
 use Rattle.sheet.specs.declared.parts.Loop.{Loop as Header}
 use Rattle.sheet.specs.declared.parts.BackEdge.{BackEdge}
@@ -27,7 +27,7 @@ get_or-loops bs k zero (l ∷ ls) d e h = ap (λ m. loop_of bs m l) (omega arith
 get_or-loops bs k (suc n) (l ∷ ls) d e h = get_or-loops bs (suc k) n ls d e (le_of_suc-le-suc h) ∙ ap (λ m. loop_of bs m (get_or ls n d)) (omega arith)
 
 -- no later loop has a header that all of them differ from
-later : (bs : List BackEdge) (k : ℕ) (ls : List Header) (d : Header) (x : ℕ) → All (λ z. x ≢ z) (map (λ l. l.header) (loops_from bs k ls)) → (j : ℕ) → j < length ls → x ≡ (get_or ls j d).header → ⊥
+later : (bs : List BackEdge) (k : ℕ) (ls : List Header) (d : Header) (x : ℕ) → AllByRecursion (λ z. x ≢ z) (map (λ l. l.header) (loops_from bs k ls)) → (j : ℕ) → j < length ls → x ≡ (get_or ls j d).header → ⊥
 later bs k [] d x a j q e = absurd (not-suc-le-zero q)
 later bs k (l ∷ ls) d x a zero q e = a.0 e
 later bs k (l ∷ ls) d x a (suc j) q e = later bs (suc k) ls d x a.1 j (le_of_suc-le-suc q) e

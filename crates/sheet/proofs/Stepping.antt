@@ -2,7 +2,7 @@
 use Rattle.std.proofs.Common.{◌≡◌, ℕ, ◌+◌, ◌<◌, ◌≤◌, true, List, length, get_or, drop, Some, None, Ok, Err, Option as Maybe, Result, sym, refl, ap, ◌∙◌, subst, arith}
 use mathlib.Core.Option.{none}
 use Rattle.std.proofs.lemmas.List.{drop_all}
-use Rattle.std.specs.List.{AllByRecursion as All}
+use Rattle.std.specs.List.{AllByRecursion}
 use Rattle.std.proofs.lemmas.Bool.{false≢true}
 use Rattle.words.specs.Words.{kind, payload, same_kind, one_of, first_failing, refusal, ends_early, refused}
 use Rattle.words.proofs.Words.{all_hold, payload_below, is_one_of, end_kind}
@@ -89,7 +89,7 @@ module _ (ws : List ℕ) where
         let k = end_kind (kind (get_or ws i 0)) n in
         subst PartsFit (closed_is s I ready.is_open)
         (closing (state_of s I).stand (state_of s I).read (reached_holds (state_of s I) i g) (subst (λ k. one_of k (due (state_of s I).stand) ≡ true) k h.0)
-        (subst (λ k. All (λ c. c.holds ≡ true) (checks (state_of s I).read (open_loop (state_of s I).stand) k (payload (get_or ws i 0)) i (drop (i + 1) ws))) k h.1).1.0).0
+        (subst (λ k. AllByRecursion (λ c. c.holds ≡ true) (checks (state_of s I).read (open_loop (state_of s I).stand) k (payload (get_or ws i 0)) i (drop (i + 1) ws))) k h.1).1.0).0
 
     pub read_laid : Laid I.blocks I.lblocks 0
     read_laid =

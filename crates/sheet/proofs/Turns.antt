@@ -1,7 +1,7 @@
 -- For code: the items that the code holds, as the reader's state, one word after another. Assumes nothing.
 use Rattle.std.proofs.Common.{◌≡◌, ℕ, suc, ◌+◌, ◌<◌, ◌≤◌, Bool, true, false, cond, not, ◌&&◌, ◌||◌, eqb, ltb, List, [], ◌∷◌, ◌++◌, map, length, get_or, take, Some, None, Ok, sum_by, filter, Option as Maybe, Result, sym, refl, ap, ◌∙◌, subst, ap₂, add-zero, zero-add, arith}
 use mathlib.Core.Option.{Option, none, some}
-use Rattle.std.specs.List.{AllByRecursion as All}
+use Rattle.std.specs.List.{AllByRecursion}
 use Rattle.std.proofs.lemmas.List.{take_more, take_all, take_at, length_push, get_or_push, map-append, append-nil}
 use Rattle.std.proofs.lemmas.List.Elements.{filter-append}
 use Rattle.std.proofs.ByRecursion.{All-push, All-weaker}
@@ -39,7 +39,7 @@ pub back_other : (bs : List BackEdge) (k o s : ℕ) → (o ≡ k → ⊥) → ba
 back_other bs k o s h =
     ap (map (λ b. b.source)) (filter-append (λ b. eqb b.owner k) bs (record { owner = o; source = s } ∷ []) ∙ ap (λ t. filter (λ b. eqb b.owner k) bs ++ cond t (record { owner = o; source = s } ∷ []) []) (ne_eqb o k h) ∙ append-nil _)
 
-pub no_backs : (bs : List BackEdge) (k : ℕ) → All (λ b. b.owner < k) bs → backs_of bs k ≡ []
+pub no_backs : (bs : List BackEdge) (k : ℕ) → AllByRecursion (λ b. b.owner < k) bs → backs_of bs k ≡ []
 no_backs [] k h = refl
 no_backs (b ∷ bs) k h = ap (λ t. map (λ b. b.source) (cond t (b ∷ filter (λ b. eqb b.owner k) bs) (filter (λ b. eqb b.owner k) bs))) (ne_eqb b.owner k (λ e. let l = h.0 in omega arith)) ∙ no_backs bs k h.1
 
@@ -268,7 +268,7 @@ module _ (I : Items) (p i : ℕ) (rest : List ℕ) where
   new_loop : Header
   new_loop = record { header = upper p; bound = lower p }
 
-  opened : Ready (Loop (length I.loops) (upper p)) (add_loop I (record { header = upper p; bound = lower p })) → All (λ b. b.owner < length I.loops) I.backs
+  opened : Ready (Loop (length I.loops) (upper p)) (add_loop I (record { header = upper p; bound = lower p })) → AllByRecursion (λ b. b.owner < length I.loops) I.backs
       → stands (in_loop (spec_loop p)) (sheet_of I) ≡ state_of (Loop (length I.loops) (upper p)) (add_loop I (record { header = upper p; bound = lower p }))
   opened r o = ap₂
       (λ (l : sheet.Loop) (ls : List Header). stands (in_loop l) (record { sets = I.sets; blocks = length I.blocks; lblocks = I.lblocks; edges = I.edges; loops = loops_from I.backs 0 ls; facts = I.facts }))

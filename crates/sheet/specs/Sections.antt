@@ -1,7 +1,7 @@
 -- Where the code that reads a sheet stands, as the reader's state. Assumes nothing.
 use Rattle.std.specs.Prelude.{◌≡◌, ℕ, suc, ◌+◌, ◌-◌, ◌<◌, ◌≤◌, true, false, cond, ◌⊎◌, List, [], ◌∷◌, length, get_or, take, drop, Some, None, Ok, Err, Option as Maybe, Result, nat_lt, slice_index, slice_index_or}
 use Rattle.std.proofs.Math.Option.{none, some}
-use Rattle.std.specs.List.{AllByRecursion as All}
+use Rattle.std.specs.List.{AllByRecursion}
 use Rattle.words.specs.Words.{set_field, tag_field, one_of, refusal, ends_early, not_due, demand, kind, payload, same_kind, Check, first_failing, refused}
 use Rattle.sheet.specs.declared.parts.Loop.{Loop as Header}
 use Rattle.sheet.specs.declared.section.Section.{Section}
@@ -59,7 +59,7 @@ lacking_in Facts = 0
 -- What the items keep while they are read: every back edge belongs to a loop, and the blocks lie end to end over the l-blocks.
 pub record Ready (s : Section) (I : Items) : Type 0 where
   pub is_open : IsOpen s I
-  pub owned : All (λ b. b.owner < length I.loops) I.backs
+  pub owned : AllByRecursion (λ b. b.owner < length I.loops) I.backs
   pub counted : back_words (sheet_of I) ≡ length I.backs
   pub laid : Laid I.blocks I.lblocks (lacking_in s)
 

@@ -1,7 +1,7 @@
 -- A task's sheet: its basic blocks with their l-blocks, its edges, loops and facts.
 -- Blocks and l-blocks go by number, from 0. Block 0 is the start, and the last block the end. Assumes nothing.
 use Rattle.std.specs.Prelude.{ℕ, ◌-◌, ◌<◌, ◌≤◌, List, length, filter, nat_eq, slice_index_or}
-use Rattle.std.specs.List.{AllByRecursion as All}
+use Rattle.std.specs.List.{AllByRecursion}
 use Rattle.words.specs.Lists.{below}
 pub use Rattle.sheet.specs.declared.parts.LBlock.{LBlock}
 pub use Rattle.sheet.specs.declared.parts.Edge.{Edge}
@@ -42,4 +42,4 @@ pub record WellFormed (S : Sheet) : Type 0 where
   pub filled : (b : ℕ) → b < S.blocks → 0 < length (fetches S b)
   pub few_sets : S.sets ≤ 64
   pub in_sets : (v : ℕ) → v < length S.lblocks → (lblock S v).set < S.sets
-  pub joins_blocks : All (λ e. (e.from < S.blocks) × (e.to < S.blocks)) S.edges
+  pub joins_blocks : AllByRecursion (λ e. (e.from < S.blocks) × (e.to < S.blocks)) S.edges

@@ -1,6 +1,6 @@
 -- The words of a sheet, which sheets fit, and the law of reading them. Assumes nothing.
 use Rattle.std.specs.Prelude.{◌≡◌, ℕ, ◌-◌, ◌^◌, ◌<◌, ◌≤◌, true, ◌≢◌, ◌↔◌, List, [], ◌∷◌, ◌++◌, map, length, sum_by, filter, nat_eq}
-use Rattle.std.specs.List.{ContainsAt as Has, AllByRecursion as All}
+use Rattle.std.specs.List.{ContainsAt as Has, AllByRecursion}
 use Rattle.words.specs.Lists.{below, joined}
 use Rattle.sheet.specs.Sheet.{Sheet, LBlock, Edge, Loop, Fact, WellFormed}
 use Rattle.sheet.specs.Walk.{edge, entry}
@@ -44,7 +44,7 @@ encode S = ended (sheet_words S)
 -- no two elements are equal
 abbrev pub Distinct : {A : Type 0} → List A → Type 0
 Distinct [] = Unit {0}
-Distinct (x ∷ xs) = All (λ y. x ≢ y) xs × Distinct xs
+Distinct (x ∷ xs) = AllByRecursion (λ y. x ≢ y) xs × Distinct xs
 
 -- Limits and rules of the items.
 pub record LBlockFits (sets blocks : ℕ) (v : LBlock) : Type 0 where
@@ -63,7 +63,7 @@ pub record BlocksFit (sets blocks : ℕ) (vs : List LBlock) : Type 0 where
   pub filled : (b : ℕ) → b < blocks → (1 ≤ length (of_block vs b)) × (length (of_block vs b) ≤ 16)
   -- they are those of block 0, then those of block 1, and so on
   pub in_order : vs ≡ joined (of_block vs) (below blocks)
-  pub each : All (LBlockFits sets blocks) vs
+  pub each : AllByRecursion (LBlockFits sets blocks) vs
 
 pub record EdgeFits (blocks : ℕ) (e : Edge) : Type 0 where
   pub from_block : e.from < blocks
@@ -73,21 +73,21 @@ pub record EdgeFits (blocks : ℕ) (e : Edge) : Type 0 where
 
 pub record EdgesFit (blocks : ℕ) (es : List Edge) : Type 0 where
   pub few : length es ≤ 512
-  pub each : All (EdgeFits blocks) es
+  pub each : AllByRecursion (EdgeFits blocks) es
   pub distinct : Distinct es
 
 pub record LoopFits (blocks : ℕ) (es : List Edge) (l : Loop) : Type 0 where
   pub header_block : l.header < blocks
   pub bound_fits : l.bound < 2 ^ 14
   pub some_back : 1 ≤ length l.backs
-  pub back_edges : All (λ b. Has es (edge b l.header)) l.backs
+  pub back_edges : AllByRecursion (λ b. Has es (edge b l.header)) l.backs
   pub distinct : Distinct l.backs
   pub entered : (e : Edge) × Has es e × (entry l e ≡ true)
 
 pub record LoopsFit (blocks : ℕ) (es : List Edge) (ls : List Loop) : Type 0 where
   pub few : length ls ≤ 32
   pub few_backs : sum_by (λ l. length l.backs) ls ≤ 64
-  pub each : All (LoopFits blocks es) ls
+  pub each : AllByRecursion (LoopFits blocks es) ls
   pub distinct : Distinct (map (λ l. l.header) ls)
 
 pub record FactFits (blocks : ℕ) (f : Fact) : Type 0 where
@@ -98,7 +98,7 @@ pub record FactFits (blocks : ℕ) (f : Fact) : Type 0 where
 
 pub record FactsFit (blocks : ℕ) (fs : List Fact) : Type 0 where
   pub few : length fs ≤ 32
-  pub each : All (FactFits blocks) fs
+  pub each : AllByRecursion (FactFits blocks) fs
 
 pub record PartsFit (S : Sheet) : Type 0 where
   pub some_block : 1 ≤ S.blocks

@@ -1,6 +1,6 @@
 -- What a traversal of the fetch graph keeps: links between edges, flags of the nodes that it saw, and a queue of those to go on from. Assumes nothing.
 use Rattle.std.specs.Prelude.{◌≡◌, ℕ, suc, ◌+◌, ◌-◌, ◌<◌, ◌≤◌, Bool, true, false, cond, not, List, [], ◌∷◌, ◌++◌, length, get_or, vec_items, vec_capacity, count_by, ◌≢◌, nat_lt, slice_index, slice_index_or}
-use Rattle.std.specs.List.{ContainsAt as Has, AllByRecursion as All}
+use Rattle.std.specs.List.{ContainsAt as Has, AllByRecursion}
 use Rattle.sheet.specs.declared.traversal.graph.Graph.{Graph}
 use Rattle.sheet.specs.declared.traversal.reach.Reach.{Reach}
 use Rattle.sheet.specs.Sheet.{Sheet, LBlock, Edge, WellFormed}
@@ -42,7 +42,7 @@ pub record Front (S : Sheet) (s : ℕ) (u : Node) (seen : List Bool) (queue : Li
   pub sized : length seen ≡ suc (length S.lblocks)
   pub sound : (k : ℕ) → k < length seen → slice_index_or seen k false ≡ true → Leads S s u (node S k)
   pub queued : (k : ℕ) → k < length S.lblocks → slice_index_or seen k false ≡ true → in_set S s (at k) ≡ false → Has queue k
-  pub inner : All (λ q. (q < length S.lblocks) × (in_set S s (at q) ≡ false) × (slice_index_or seen q false ≡ true)) queue
+  pub inner : AllByRecursion (λ q. (q < length S.lblocks) × (in_set S s (at q) ≡ false) × (slice_index_or seen q false ≡ true)) queue
   pub room : length queue + count_by not seen ≤ suc (length S.lblocks)
 
 -- a front that has grown by nodes seen and nodes queued

@@ -1,6 +1,6 @@
 -- Walks of a sheet, and which are lawful. Assumes nothing.
 use Rattle.std.specs.Prelude.{◌≡◌, ℕ, ◌*◌, ◌<◌, ◌≤◌, Bool, true, false, not, ◌&&◌, List, [], ◌∷◌, ◌++◌, count_by, ◌==◌, nat_eq}
-use Rattle.std.specs.List.{ContainsAt as Has, AllByRecursion as All}
+use Rattle.std.specs.List.{ContainsAt as Has, AllByRecursion}
 use Rattle.words.specs.Lists.{any}
 use Rattle.sheet.specs.Sheet.{Sheet, Edge, Loop, last_block}
 
@@ -36,7 +36,7 @@ pub record MayRepeat (l : Loop) (before : List Edge) : Type 0 where
   pub since : List Edge
   pub split : before ≡ earlier ++ (last_entry ∷ since)
   pub enters : entry l last_entry ≡ true
-  pub no_later : All (λ e. entry l e ≡ false) since
+  pub no_later : AllByRecursion (λ e. entry l e ≡ false) since
   pub fewer : count_by (back l) since < l.bound
 
 -- every back edge is taken where it may be
@@ -46,10 +46,10 @@ KeepsBound l es = (before rest : List Edge) (e : Edge) → es ≡ before ++ (e �
 -- A walk underway goes from block 0 along edges and keeps every loop's bound. A lawful walk also ends at the last block and keeps every fact.
 pub record Underway (S : Sheet) (w : List ℕ) : Type 0 where
   pub begins : Begins 0 w
-  pub follows : All (Has S.edges) (steps w)
-  pub loops : All (λ l. KeepsBound l (steps w)) S.loops
+  pub follows : AllByRecursion (Has S.edges) (steps w)
+  pub loops : AllByRecursion (λ l. KeepsBound l (steps w)) S.loops
 
 pub record Lawful (S : Sheet) (w : List ℕ) : Type 0 where
   pub underway : Underway S w
   pub ends : Ends (last_block S) w
-  pub facts : All (λ f. count_by (nat_eq f.i) w ≤ f.k * count_by (nat_eq f.j) w) S.facts
+  pub facts : AllByRecursion (λ f. count_by (nat_eq f.i) w ≤ f.k * count_by (nat_eq f.j) w) S.facts

@@ -1,6 +1,6 @@
 -- What the proofs use of lists. Assumes nothing.
 use Rattle.std.proofs.Common.{◌≡◌, ℕ, zero, suc, ◌+◌, ◌<◌, ◌≤◌, Bool, true, false, cond, not, ◌&&◌, ◌||◌, eqb, List, [], ◌∷◌, ◌++◌, map, length, get_or, filter, sym, refl, ap, ◌∙◌, subst, ⊎_elim, le_of_suc-le-suc, not-suc-le-zero, arith}
-use Rattle.std.specs.List.{ContainsAt as Has, AllByRecursion as All}
+use Rattle.std.specs.List.{ContainsAt as Has, AllByRecursion}
 use Rattle.std.proofs.lemmas.Bool.{cases_eq, ne_eqb, eq-eqb, or_left, or_right, or_parts, false≢true}
 use Rattle.std.proofs.lemmas.List.{append-nil, append_assoc}
 use Rattle.std.proofs.ByRecursion.{all_has_itself, has_append_left, has_append_right}
@@ -17,38 +17,38 @@ first_of [] h = absurd (omega arith)
 first_of (x ∷ xs) h = (x, xs, refl)
 
 -- All
-pub all_left : {A : Type 0} (P : A → Type 0) (xs ys : List A) → All P (xs ++ ys) → All P xs
+pub all_left : {A : Type 0} (P : A → Type 0) (xs ys : List A) → AllByRecursion P (xs ++ ys) → AllByRecursion P xs
 all_left P [] ys h = tt
 all_left P (x ∷ xs) ys h = (h.0, all_left P xs ys h.1)
 
-pub all_right : {A : Type 0} (P : A → Type 0) (xs ys : List A) → All P (xs ++ ys) → All P ys
+pub all_right : {A : Type 0} (P : A → Type 0) (xs ys : List A) → AllByRecursion P (xs ++ ys) → AllByRecursion P ys
 all_right P [] ys h = h
 all_right P (x ∷ xs) ys h = all_right P xs ys h.1
 
-pub all_unmap : {A B : Type 0} (P : B → Type 0) (f : A → B) (xs : List A) → All P (map f xs) → All (λ x. P (f x)) xs
+pub all_unmap : {A B : Type 0} (P : B → Type 0) (f : A → B) (xs : List A) → AllByRecursion P (map f xs) → AllByRecursion (λ x. P (f x)) xs
 all_unmap P f [] h = tt
 all_unmap P f (x ∷ xs) h = (h.0, all_unmap P f xs h.1)
 
-pub all_up_from : (P : ℕ → Type 0) (i n : ℕ) → ((k : ℕ) → i ≤ k → k < i + n → P k) → All P (up_from i n)
+pub all_up_from : (P : ℕ → Type 0) (i n : ℕ) → ((k : ℕ) → i ≤ k → k < i + n → P k) → AllByRecursion P (up_from i n)
 all_up_from P i zero h = tt
 all_up_from P i (suc n) h = (h i (omega arith) (omega arith), all_up_from P (suc i) n (λ k l u. h k (omega arith) (omega arith)))
 
-pub all_below : (P : ℕ → Type 0) (n : ℕ) → ((k : ℕ) → k < n → P k) → All P (below n)
+pub all_below : (P : ℕ → Type 0) (n : ℕ) → ((k : ℕ) → k < n → P k) → AllByRecursion P (below n)
 all_below P n h = all_up_from P 0 n (λ k l u. h k (omega arith))
 
-up_from_all : (P : ℕ → Type 0) (i n : ℕ) → All P (up_from i n) → (k : ℕ) → i ≤ k → k < i + n → P k
+up_from_all : (P : ℕ → Type 0) (i n : ℕ) → AllByRecursion P (up_from i n) → (k : ℕ) → i ≤ k → k < i + n → P k
 up_from_all P i zero h k l u = absurd (omega arith)
 up_from_all P i (suc n) h k l u =
     ⊎_elim (λ e. subst P e h.0) (λ ne. up_from_all P (suc i) n h.1 k (omega arith) (omega arith)) (cases_eq i k)
 
-pub below_all : (P : ℕ → Type 0) (n : ℕ) → All P (below n) → (k : ℕ) → k < n → P k
+pub below_all : (P : ℕ → Type 0) (n : ℕ) → AllByRecursion P (below n) → (k : ℕ) → k < n → P k
 below_all P n h k u = up_from_all P 0 n h k (omega arith) (omega arith)
 
-pub all_kept : {A : Type 0} (P Q : A → Type 0) (p : A → Bool) → ((x : A) → P x → p x ≡ true → Q x) → (xs : List A) → All P xs → All Q (filter p xs)
+pub all_kept : {A : Type 0} (P Q : A → Type 0) (p : A → Bool) → ((x : A) → P x → p x ≡ true → Q x) → (xs : List A) → AllByRecursion P xs → AllByRecursion Q (filter p xs)
 all_kept P Q p f [] h = tt
 all_kept P Q p f (x ∷ xs) h = go (p x) refl (all_kept P Q p f xs h.1)
   where
-    go : (b : Bool) → p x ≡ b → All Q (filter p xs) → All Q (cond b (x ∷ filter p xs) (filter p xs))
+    go : (b : Bool) → p x ≡ b → AllByRecursion Q (filter p xs) → AllByRecursion Q (cond b (x ∷ filter p xs) (filter p xs))
     go true e r = (f x h.0 e, r)
     go false e r = r
 
@@ -97,7 +97,7 @@ any_found p (x ∷ xs) t = go (p x) refl t (λ t. any_found p xs t)
     go true e t more = (x, has_first x xs, e)
     go false e t more = let r = more t in (r.0, has_later x r.0 xs r.1, r.2)
 
-pub any_none : {A : Type 0} (p : A → Bool) (xs : List A) → any p xs ≡ false → All (λ x. p x ≡ false) xs
+pub any_none : {A : Type 0} (p : A → Bool) (xs : List A) → any p xs ≡ false → AllByRecursion (λ x. p x ≡ false) xs
 any_none p [] t = tt
 any_none p (x ∷ xs) t = let r = or_parts (p x) (any p xs) t in (r.0, any_none p xs r.1)
 

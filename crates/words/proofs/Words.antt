@@ -1,7 +1,7 @@
 -- Words and their kinds, payloads and fields; what checks that pass say. Assumes nothing.
 use Rattle.std.proofs.Common.{◌≡◌, ℕ, zero, suc, ◌+◌, ◌*◌, ◌/◌, ◌%◌, ◌^◌, ◌<◌, ◌≤◌, Bool, true, false, leb, ◌⊎◌, List, [], ◌∷◌, get_or, sym, refl, ap, ◌∙◌, inl, inr, ⊎_elim, arith}
 use mathlib.Core.Option.{Option, none, some}
-use Rattle.std.specs.List.{AllByRecursion as All}
+use Rattle.std.specs.List.{AllByRecursion}
 use Rattle.std.proofs.lemmas.Bool.{false≢true, and_parts, and_from, leb-true, le-leb, or_cases, eqb-true}
 use Rattle.std.proofs.lemmas.Nat.{shr_high, mod_low, shr_split, shr-shr, mod_below}
 use Rattle.words.specs.Words.{Kind, NONE, HEAD, BLOCK, LBLOCK, COST, EDGE, LOOP, BACK, FACT, CLAIM, HIGH, LOW, START, STEP, FINISH, END}
@@ -79,16 +79,16 @@ pub due_word : (w : ℕ) (ks : List Kind) → one_of (kind w) ks ≡ true → on
 due_word w ks t n = is_word w (λ e. false≢true (sym n ∙ ap (λ k. one_of k ks) (sym e) ∙ t))
 
 -- checks
-pub all_hold : (cs : List Check) → first_failing cs ≡ none → All (λ c. c.holds ≡ true) cs
+pub all_hold : (cs : List Check) → first_failing cs ≡ none → AllByRecursion (λ c. c.holds ≡ true) cs
 all_hold [] e = tt
 all_hold (c ∷ cs) e = go c.holds refl e (λ e. all_hold cs e)
   where
     go : (b : Bool) → c.holds ≡ b → ◌≡◌ {A = Option Refusal} (elim b [ true ↦ first_failing cs | false ↦ some c.otherwise ]) none
-        → (first_failing cs ≡ none → All (λ c. c.holds ≡ true) cs) → (c.holds ≡ true) × All (λ c. c.holds ≡ true) cs
+        → (first_failing cs ≡ none → AllByRecursion (λ c. c.holds ≡ true) cs) → (c.holds ≡ true) × AllByRecursion (λ c. c.holds ≡ true) cs
     go true q e more = (q, more e)
     go false q e more = let z : ◌≡◌ {A = ℕ} 0 1 = cc in absurd (omega arith)
 
-pub none_fails : (cs : List Check) → All (λ c. c.holds ≡ true) cs → first_failing cs ≡ none
+pub none_fails : (cs : List Check) → AllByRecursion (λ c. c.holds ≡ true) cs → first_failing cs ≡ none
 none_fails [] h = refl
 none_fails (c ∷ cs) h = rw h.0 (none_fails cs h.1)
 

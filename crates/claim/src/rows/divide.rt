@@ -1,6 +1,6 @@
 // The rows of a sheet by families.
 ghost use Rattle.std.specs.Prelude.{◌≡◌, length};
-ghost use Rattle.sheet.specs.Rows.{rows as row_List};
+ghost use Rattle.sheet.specs.Rows.{rows as row_list};
 ghost use Rattle.sheet.specs.View.{view};
 ghost use Rattle.claim.specs.Parts.{multipliers};
 ghost use Rattle.claim.specs.Shares.{Sized, all, weights};
@@ -11,7 +11,7 @@ use sheet::timing::Sheet;
 // Two rows for each block, one for each loop and each fact, an arrival and a departure row for each l-block, one for each used set, and a
 // miss row for each l-block.
 pub(crate) fn divide<'a>(sheet: &Sheet, pairs: &'a [[u32; 2]]) -> Rows<'a>
-    requires { length pairs.now ≡ length (row_List (view sheet.now)) }
+    requires { length pairs.now ≡ length (row_list (view sheet.now)) }
     ensures sized { Sized (view sheet.now) (weights result) }
     ensures whole { multipliers pairs.now ≡ all (weights result) }
 {

@@ -2,7 +2,7 @@
 ghost use Rattle.std.specs.Prelude.{◌≡◌, ◌+◌, ◌*◌, ◌≤◌, length};
 ghost use Rattle.sheet.specs.Conflict.{Conflicts};
 ghost use Rattle.sheet.specs.ConflictList.{conflicts as conflict_list};
-ghost use Rattle.sheet.specs.Rows.{rows as row_List, columns as column_list};
+ghost use Rattle.sheet.specs.Rows.{rows as row_list, columns as column_list};
 ghost use Rattle.sheet.specs.Sound.{Sound};
 ghost use Rattle.sheet.specs.View.{items as items_in, view};
 
@@ -82,7 +82,7 @@ impl Sheet {
 
     // How many rows the linear program has.
     pub fn rows(&self) -> usize
-        ensures { result ≡ length (row_List (view self.now)) }
+        ensures { result ≡ length (row_list (view self.now)) }
     {
         count_rows(
             self.draft.blocks.len(),

@@ -1,5 +1,5 @@
 ghost use Rattle.std.specs.Prelude.{◌≡◌, ◌<◌, ◌≤◌, length, replicate, vec_capacity};
-ghost use Rattle.std.specs.List.{AllByRecursion as All};
+ghost use Rattle.std.specs.List.{AllByRecursion};
 ghost use Rattle.sheet.specs.Traversal.{Linked};
 
 use crate::parts::{Block, Edge, LBlock};
@@ -30,7 +30,7 @@ pub(crate) fn refill<T: Copy>(v: &mut Vec<T>, n: usize, x: T)
 
 // Links the edges.
 pub(crate) fn link(blocks: usize, edges: &[Edge], latest: &mut Vec<usize>, before: &mut Vec<usize>)
-    requires from { All (λ e. e.from < blocks) edges.now }
+    requires from { AllByRecursion (λ e. e.from < blocks) edges.now }
     requires blocks { blocks ≤ vec_capacity latest.old }
     requires edges { length edges.now ≤ vec_capacity before.old }
     ensures linked { Linked edges.now blocks (length edges.now) latest.new.items before.new.items }

@@ -1,6 +1,6 @@
-use Rattle.std.proofs.Common.{◌≡◌, ◌+◌, ◌-◌, ◌*◌, ◌≤◌, leb, length, sym, ap, ◌∙◌, inl, inr, arith}
+use Rattle.std.proofs.Common.{◌+◌, ◌-◌, ◌*◌, ◌≤◌, length, sym, ap, ◌∙◌, inl, inr, arith}
 use Rattle.std.proofs.lemmas.Bool.{le-leb, lt-leb, cases_lt}
-use Rattle.sheet.specs.Rows.{rows, in_row}
+use Rattle.sheet.specs.Rows.{in_row}
 use Rattle.sheet.specs.View.{view, items}
 use Rattle.sheet.proofs.Sound.{length-loops}
 use Rattle.claim.proofs.Division.{rows_are}

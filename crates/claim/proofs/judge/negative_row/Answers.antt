@@ -1,13 +1,13 @@
-use Rattle.std.proofs.Common.{◌≡◌, ℕ, ◌<◌, Bool, true, false, not, ◌||◌, [], length, get_or, pos, sym, refl, ap, ◌∙◌, ap₂, arith}
+use Rattle.std.proofs.Common.{◌≡◌, true, false, not, ◌||◌, [], get_or, pos, sym, refl, ap, ◌∙◌, ap₂, arith}
 use lib.Signed.{le_z}
-use Rattle.std.proofs.lemmas.List.{length-map, get_or-map}
-use Rattle.sheet.specs.Rows.{rows, in_row, at_most}
+use Rattle.std.proofs.lemmas.List.{length-map}
+use Rattle.sheet.specs.Rows.{rows}
 use Rattle.sheet.specs.View.{view}
 use Rattle.claim.specs.Judge.{sign_tests}
 use Rattle.claim.specs.Parts.{multiplier, multipliers}
 use Rattle.claim.specs.Shares.{as_tested}
 use Rattle.claim.proofs.Leading.{passed_none, passed_more, failed_at, passed_all}
-use Rattle.claim.proofs.Signs.{get_or-signs, length-signs, sign_test}
+use Rattle.claim.proofs.Signs.{length-signs, sign_test}
 use Rattle.claim.proofs.judge.negative_row.Goals as goal
 use Rattle.claim.proofs.judge.negative_row.Goals.{else-at_most-via-then-at_most+else-not-covers, else-at_most-via-else-at_most}
 

@@ -1,6 +1,6 @@
-use Rattle.std.proofs.Common.{◌≡◌, ◌-◌, length, get_or, pos, ◌+ℤ◌, sym, ap, ◌∙◌, ap₂, arith}
+use Rattle.std.proofs.Common.{◌-◌, length, get_or, pos, ◌+ℤ◌, sym, ap, ◌∙◌, ap₂, arith}
 use Rattle.std.proofs.lemmas.List.{length-map}
-use Rattle.sheet.specs.View.{view, items}
+use Rattle.sheet.specs.View.{view}
 use Rattle.claim.specs.Parts.{multiplier, multipliers}
 use Rattle.claim.specs.Shares.{weights}
 use Rattle.claim.proofs.Sets.{few_used}

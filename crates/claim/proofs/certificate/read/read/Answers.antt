@@ -1,6 +1,5 @@
-use Rattle.std.proofs.Common.{◌≡◌, suc, ◌+◌, ◌≤◌, [], length, take, drop, sym, refl, ap, ◌∙◌, arith}
+use Rattle.std.proofs.Common.{suc, ◌+◌, length, take, drop, sym, refl, ap, ◌∙◌, arith}
 use Rattle.std.proofs.lemmas.Result.{err_from_is_err_and}
-use Rattle.claim.specs.Certificate.{Certificate}
 use Rattle.claim.specs.Faults.{claim_refusal}
 use Rattle.claim.specs.ReadCertificate.{stands, at_claim, at_W, at_pair, with_D, with_W, with_multiplier, start, read_from}
 use Rattle.claim.specs.Parts.{multiplier}

@@ -1,4 +1,4 @@
-use Rattle.std.proofs.Common.{◌≡◌, ◌+◌, ◌*◌, ◌≤◌, length}
+use Rattle.std.proofs.Common.{◌≡◌}
 use Rattle.claim.proofs.Taken.{Taken}
 use Rattle.claim.proofs.certificate.read.read.Given as goal
 

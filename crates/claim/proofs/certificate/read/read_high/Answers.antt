@@ -1,8 +1,7 @@
-use Rattle.std.proofs.Common.{sym, ap, ◌∙◌, arith}
+use Rattle.std.proofs.Common.{sym, ap, ◌∙◌}
 use Rattle.std.proofs.lemmas.Result.{err_from_is_err_and}
 use Rattle.words.specs.Words.{refused, refusal, wrong_pairs, not_due, wrong_sign, unused_bits}
 use Rattle.claim.specs.ReadCertificate.{stands}
-use Rattle.claim.proofs.Turns.{cut}
 use Rattle.claim.proofs.Reading.{high_cut, high_ends, high_not_due, high_unused}
 use Rattle.claim.proofs.certificate.read.read_high.Goals as goal
 

@@ -1,4 +1,4 @@
-use Rattle.std.proofs.Common.{◌≡◌, ℕ, ◌+◌, ◌-◌, ◌*◌, ◌^◌, ◌<◌, ◌≤◌, length, get_or, sum_by, sym, ap, ◌∙◌, subst, arith}
+use Rattle.std.proofs.Common.{◌≡◌, ◌+◌, ◌-◌, ◌^◌, ◌<◌, ◌≤◌, get_or, sum_by, sym, ap, ◌∙◌, subst, arith}
 use Rattle.words.specs.Lists.{up_from}
 use Rattle.sheet.specs.Sheet.{no_lblock}
 use Rattle.claim.proofs.Blocks.{cost_none, cost_more}

@@ -1,4 +1,4 @@
-use Rattle.std.proofs.Common.{◌≡◌, ◌+ℤ◌, ap, ◌∙◌, ap₂, arith}
+use Rattle.std.proofs.Common.{◌+ℤ◌, ap, ◌∙◌, ap₂, arith}
 use Rattle.std.proofs.lemmas.List.{get_or_default}
 use Rattle.claim.proofs.Facts.{nothing}
 use Rattle.claim.proofs.column.block.block_total.Goals as goal

@@ -1,16 +1,12 @@
-use Rattle.std.proofs.Common.{◌≡◌, ℕ, ◌<◌, ◌≤◌, length, get_or, ◌+ℤ◌, sym, ap, ◌∙◌, subst, ap₂, arith}
-use Rattle.std.proofs.ByRecursion.{All-get_or}
-use Rattle.std.proofs.lemmas.List.{length-map, get_or_default}
-use Rattle.std.specs.List.{ContainsAt as Has}
-use Rattle.sheet.specs.Conflict.{used, used_sets}
+use Rattle.std.proofs.Common.{get_or, ◌+ℤ◌, ap, ◌∙◌, ap₂, arith}
+use Rattle.std.proofs.lemmas.List.{get_or_default}
+use Rattle.sheet.specs.Conflict.{used}
 use Rattle.sheet.specs.ConflictList.{conflicts}
 use Rattle.sheet.specs.View.{view}
 use Rattle.claim.specs.Items.{Conflict, START}
-use Rattle.claim.specs.Parts.{multiplier}
 use Rattle.claim.specs.Shares.{weights}
-use Rattle.claim.specs.Tables.{NodeIn}
 use Rattle.claim.proofs.Edges.{conflict_test}
-use Rattle.claim.proofs.Sets.{rank_below, ends_in, set_used, conflict_at}
+use Rattle.claim.proofs.Sets.{rank_below, set_used, conflict_at}
 use Rattle.claim.proofs.column.conflict.conflict_covered.Goals as goal
 
 abbrev no_conflict : Conflict

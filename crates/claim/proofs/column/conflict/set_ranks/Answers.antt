@@ -1,4 +1,4 @@
-use Rattle.std.proofs.Common.{◌≡◌, ◌+◌, true, false, sym, refl, ◌∙◌, not-suc-le-zero, arith}
+use Rattle.std.proofs.Common.{◌≡◌, ◌+◌, true, false, refl, ◌∙◌, not-suc-le-zero, arith}
 use Rattle.std.proofs.lemmas.List.{length-set}
 use Rattle.sheet.specs.Kept.{used_among}
 use Rattle.sheet.proofs.Used.{used_few}

@@ -1,6 +1,6 @@
-use Rattle.std.proofs.Common.{◌≡◌, ℕ, ◌<◌, length, get_or, ◌-ℤ◌, sym, refl, ap, ◌∙◌, subst, ap₂, arith}
+use Rattle.std.proofs.Common.{get_or, ◌-ℤ◌, ap, ◌∙◌, ap₂, arith}
 use Rattle.std.proofs.lemmas.List.{length-map, get_or_default}
-use Rattle.sheet.specs.View.{view, items}
+use Rattle.sheet.specs.View.{view}
 use Rattle.claim.specs.Items.{Edge}
 use Rattle.claim.specs.Parts.{multiplier}
 use Rattle.claim.specs.Shares.{weights}

@@ -1,8 +1,8 @@
-use Rattle.std.proofs.Common.{◌≡◌, ◌+◌, ◌*◌, ◌^◌, ◌<◌, length, get_or, pos, sym, ap, ◌∙◌, subst, arith}
+use Rattle.std.proofs.Common.{◌+◌, ◌*◌, ◌^◌, ◌<◌, length, get_or, subst, arith}
 use Rattle.std.proofs.lemmas.List.{length-map}
 use Rattle.claim.specs.Items.{Fact}
 use Rattle.claim.specs.Parts.{multiplier, multipliers}
-use Rattle.claim.specs.Tables.{FactAdded, AllNear}
+use Rattle.claim.specs.Tables.{FactAdded}
 use Rattle.claim.proofs.Nears.{near_more}
 use Rattle.claim.proofs.Facts.{no_facts, more_facts, all_facts, added_near}
 use Rattle.claim.proofs.column.fact.fact_shares.Goals as goal

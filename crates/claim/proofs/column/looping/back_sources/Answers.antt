@@ -1,4 +1,4 @@
-use Rattle.std.proofs.Common.{◌≡◌, ◌+◌, Bool, List, [], length, get_or, take, sym, subst, inl, inr, arith}
+use Rattle.std.proofs.Common.{◌+◌, [], get_or, take, sym, subst, inl, inr}
 use Rattle.sheet.specs.declared.parts.BackEdge.{BackEdge}
 use Rattle.claim.specs.Tables.{SourceTable}
 use Rattle.claim.proofs.Loopings.{Square, none_sources, none_square, more_sources, marked_square, same_sources, all_sources}

@@ -1,9 +1,9 @@
-use Rattle.std.proofs.Common.{◌≡◌, ℕ, ◌+◌, ◌++◌, map, length, sym, ap, ◌∙◌, arith}
+use Rattle.std.proofs.Common.{◌≡◌, ◌+◌, ◌++◌, map, length, sym, ap, ◌∙◌, arith}
 use Rattle.std.proofs.lemmas.List.{length-map, length-append}
 use Rattle.words.specs.Lists.{below}
 use Rattle.sheet.specs.ConflictList.{conflicts}
 use Rattle.sheet.specs.Rows.{N, T, M, P}
-use Rattle.sheet.specs.View.{view, items}
+use Rattle.sheet.specs.View.{view}
 use Rattle.claim.specs.Shares.{weights, covered}
 use Rattle.claim.proofs.Leading.{low_first, low_then, low_none, length-each}
 use Rattle.claim.proofs.column.low.low_column.Goals as goal

@@ -1,4 +1,4 @@
-use Rattle.std.proofs.Common.{◌≡◌, ℕ, ◌<◌, map, length, sym, ap, ◌∙◌, arith}
+use Rattle.std.proofs.Common.{◌<◌, map, length, sym, ap, ◌∙◌, arith}
 use Rattle.words.specs.Lists.{below}
 use Rattle.sheet.specs.Rows.{M}
 use Rattle.sheet.specs.View.{view}

@@ -1,4 +1,4 @@
-use Rattle.std.proofs.Common.{◌≡◌, [], get_or, pos, sym, ap, ◌∙◌}
+use Rattle.std.proofs.Common.{[], pos, sym, ◌∙◌}
 use Rattle.std.proofs.lemmas.List.{get_or-map}
 use Rattle.claim.specs.Parts.{multiplier}
 use Rattle.claim.proofs.rows.value.at.Goals as goal
