@@ -1,8 +1,6 @@
 -- For code: a line that was written at the start of a buffer, and then appended to the text. Assumes nothing.
-use Rattle.std.proofs.Common.{◌≡◌, ℕ, ◌+◌, ◌-◌, List, [], ◌∷◌, ◌++◌, length, take, drop, Ok, Err, Result, sym, refl, ap, ◌∙◌, subst, arith}
+use Rattle.std.proofs.Common.{◌≡◌, ℕ, ◌+◌, ◌-◌, List, length, take, drop, Ok, Result, ap, ◌∙◌, subst, arith}
 use Rattle.std.proofs.lemmas.List.{take_at}
-use Rattle.line.specs.declared.fault.LineFault.{LineFault}
-use Rattle.line.specs.Text.{over_at}
 use Rattle.line.specs.Written.{Written}
 use Rattle.claim_marker.specs.Text.{Appended}
 

@@ -1,9 +1,9 @@
 -- For code: the first list, one word after another. Assumes nothing.
-use Rattle.std.proofs.Common.{◌≡◌, ℕ, zero, suc, ◌+◌, ◌-◌, ◌<◌, ◌≤◌, Bool, true, false, List, [], ◌∷◌, ◌++◌, length, get_or, drop, sym, refl, ap, ◌∙◌, subst, arith}
+use Rattle.std.proofs.Common.{◌≡◌, ℕ, zero, suc, ◌-◌, ◌<◌, ◌≤◌, true, false, List, [], ◌∷◌, ◌++◌, length, get_or, drop, sym, refl, ap, ◌∙◌, arith}
 use Rattle.std.proofs.lemmas.List.{append-nil, append_assoc}
 use Rattle.words.specs.Words.{kind, same_kind}
 use Rattle.words.specs.declared.word.Kind.TheVariants.{End as END}
-use Rattle.claim_marker.specs.Input.{word_at, list_up_to, first_list}
+use Rattle.claim_marker.specs.Input.{word_at, list_up_to}
 
 -- fewer than four bytes are no word
 pub none_short : (n : ℕ) (bs : List ℕ) → length bs < 4 → list_up_to n bs ≡ []

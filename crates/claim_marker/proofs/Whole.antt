@@ -1,5 +1,5 @@
 -- Every text that is printed is whole lines. Assumes nothing.
-use Rattle.std.proofs.Common.{◌≡◌, ℕ, ◌⊎◌, List, [], ◌∷◌, ◌++◌, codes, decimal, sym, refl, ap, ◌∙◌, subst, inl, inr}
+use Rattle.std.proofs.Common.{ℕ, List, [], ◌∷◌, ◌++◌, codes, decimal, sym, refl, ap, ◌∙◌, subst, inl, inr}
 use Rattle.std.proofs.lemmas.List.{append-nil, append_assoc}
 use Rattle.words.specs.Words.{Answer, accepted, refused}
 use Rattle.words.specs.declared.refusal.Refusal.{Refusal}
@@ -7,7 +7,7 @@ use Rattle.line.specs.declared.lines.SheetNumbers.{SheetNumbers}
 use Rattle.line.specs.declared.lines.Item.{Item}
 use Rattle.line.specs.declared.lines.Item.TheVariants.{Claim as ClaimItem}
 use Rattle.line.specs.Text.{spaced, line_of}
-use Rattle.line.specs.Lines.{sheet_text, accepted_text, refusal_text, item_text, layer_text}
+use Rattle.line.specs.Lines.{sheet_text, refusal_text, item_text, layer_text}
 use Rattle.claim_marker.specs.Text.{WholeLines}
 use Rattle.claim_marker.specs.Stream.{claim_text}
 

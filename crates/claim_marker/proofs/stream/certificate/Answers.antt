@@ -5,10 +5,10 @@ use Rattle.claim_marker.proofs.stream.certificate.Goals as goal
 
 pub returns-in-Ok : goal.returns-in-Ok
 returns-in-Ok c =
-    subst (λ line. Appended (vec_items c.args.text.now) line c.append-accepted.result (vec_items c.append-accepted.new.text))
-    (sym (ap claim_text c.in-Ok.ensures.answer)) c.append-accepted.ensures
+    subst (λ line. Appended (vec_items c.args.text.now) line c.append_accepted.result (vec_items c.append_accepted.new.text))
+    (sym (ap claim_text c.in-Ok.ensures.answer)) c.append_accepted.ensures
 
 pub returns-in-Err : goal.returns-in-Err
 returns-in-Err c =
-    subst (λ line. Appended (vec_items c.args.text.now) line c.append-refusal.result (vec_items c.append-refusal.new.text))
-    (sym (ap claim_text c.in-Err.ensures.answer)) c.append-refusal.ensures
+    subst (λ line. Appended (vec_items c.args.text.now) line c.append_refusal.result (vec_items c.append_refusal.new.text))
+    (sym (ap claim_text c.in-Err.ensures.answer)) c.append_refusal.ensures

@@ -1,4 +1,4 @@
-use Rattle.std.proofs.Common.{◌+◌, ◌-◌, ◌*◌, ◌≤◌, length, take, drop, vec_items, sym, subst, arith}
+use Rattle.std.proofs.Common.{◌+◌, ◌*◌, ◌≤◌, length, drop, vec_items, sym, subst, arith}
 use Rattle.std.proofs.lemmas.List.{take_rest}
 use Rattle.std.proofs.lemmas.Result.{err_from_is_err_and}
 use Rattle.sheet.specs.View.{view}
@@ -17,33 +17,33 @@ went : (c : goal.In-Some) → (1 ≤ c.in-Some.taken) × (4 * (c.loop-taken.plac
 went c =
     went_on (view c.args.sheet.now) c.args.input.now (vec_items c.args.text.now) (stream (view c.args.sheet.now) c.args.start (drop (4 * c.args.start) c.args.input.now))
     c.loop-taken.place (vec_items c.loop-taken.text) c.loop-taken.invariant.0 c.loop-taken.invariant.2 _ (take_rest c.args.input.now (4 * c.loop-taken.place))
-    (vec_items c.next.new.text) c.in-ok-taken.field-0 c.in-Some.taken c.in-Some.is c.in-ok-taken.ensures.done
+    (vec_items c.next.new.text) c.in_ok-taken.field-0 c.in-Some.taken c.in-Some.is c.in_ok-taken.ensures.done
 
-pub overflow-add-place : goal.overflow-add-place
-overflow-add-place c = let w = went c in omega (arith, w.1)
+pub overflow_add-place : goal.overflow_add-place
+overflow_add-place c = let w = went c in omega (arith, w.1)
 
 pub loop-taken-smaller : goal.loop-taken-smaller
 loop-taken-smaller c = let w = went c in omega (arith, w.0, w.1)
 
 pub loop-taken-preserved : goal.loop-taken-preserved
-loop-taken-preserved c = let w = went c in (w.1, c.in-ok-taken.ensures.space, w.2)
+loop-taken-preserved c = let w = went c in (w.1, c.in_ok-taken.ensures.space, w.2)
 
 pub returns : goal.returns
 returns c = record {
   printed = stopped (view c.args.sheet.now) c.args.input.now (vec_items c.args.text.now) (stream (view c.args.sheet.now) c.args.start (drop (4 * c.args.start) c.args.input.now))
       c.loop-taken.place (vec_items c.loop-taken.text) c.loop-taken.invariant.0 c.loop-taken.invariant.2 _ (take_rest c.args.input.now (4 * c.loop-taken.place))
-      (vec_items c.next.new.text) c.in-ok-taken.field-0 c.in-default.is c.in-ok-taken.ensures.done;
-  space = c.in-ok-taken.ensures.space;
+      (vec_items c.next.new.text) c.in_ok-taken.field-0 c.in_default.is c.in_ok-taken.ensures.done;
+  space = c.in_ok-taken.ensures.space;
 }
 
-pub returns-in-err-taken : goal.returns-in-err-taken
-returns-in-err-taken c =
-    let p = err_from_is_err_and c.from-residual.result c.from-residual.ensures.1 in
+pub returns-in_err-taken : goal.returns-in_err-taken
+returns-in_err-taken c =
+    let p = err_from_is_err_and c.from_residual.result c.from_residual.ensures.1 in
     let lines = stream (view c.args.sheet.now) c.args.start (drop (4 * c.args.start) c.args.input.now) in
     record {
       printed = subst (λ r. Printed (vec_items c.args.text.now) lines r (vec_items c.next.new.text)) (sym p.1)
           (failed (view c.args.sheet.now) c.args.input.now (vec_items c.args.text.now) lines
           c.loop-taken.place (vec_items c.loop-taken.text) c.loop-taken.invariant.0 c.loop-taken.invariant.2 _ (take_rest c.args.input.now (4 * c.loop-taken.place))
-          (vec_items c.next.new.text) c.in-err-taken.field-0.0 c.in-err-taken.ensures.done);
-      space = c.in-err-taken.ensures.space;
+          (vec_items c.next.new.text) c.in_err-taken.field-0.0 c.in_err-taken.ensures.done);
+      space = c.in_err-taken.ensures.space;
     }

@@ -1,4 +1,4 @@
-use Rattle.std.proofs.Common.{◌≡◌, ℕ, suc, ◌-◌, ◌*◌, ◌<◌, ◌≤◌, List, ◌++◌, length, drop, vec_items, vec_capacity}
+use Rattle.std.proofs.Common.{◌-◌, ◌*◌, ◌≤◌, length, drop, vec_items, vec_capacity}
 use Rattle.sheet.specs.View.{view}
 use Rattle.claim_marker.specs.Stream.{stream}
 use Rattle.claim_marker.proofs.Going.{Going}

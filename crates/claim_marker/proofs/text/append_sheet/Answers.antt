@@ -5,5 +5,5 @@ use Rattle.claim_marker.proofs.text.append_sheet.Goals as goal
 
 pub returns : goal.returns
 returns c =
-    appended (replicate 256 0) (sheet_text c.args.n.now) c.sheet-line.new.out (vec_items c.args.text.now) (vec_items c.extend-from-slice.new.self) c.in-Ok.end
-    c.extend-from-slice.result c.in-Ok.ensures.written c.extend-from-slice.ensures.items
+    appended (replicate 256 0) (sheet_text c.args.n.now) c.sheet_line.new.out (vec_items c.args.text.now) (vec_items c.extend_from_slice.new.self) c.in-Ok.end
+    c.extend_from_slice.result c.in-Ok.ensures.written c.extend_from_slice.ensures.items

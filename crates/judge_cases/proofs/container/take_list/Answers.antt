@@ -12,10 +12,10 @@ returns-then-rest-count c = record {
 
 pub returns : goal.returns
 returns c =
-    let begins : Begins c.args.words.now c.split-at.result.0.now c.split-at.result.1.now =
-    enough c.args.words.now _ c.split-at.result.0.now c.split-at.result.1.now (omega (arith, ltb-false))
-    (take_all _ _ (simp length-drop (omega arith))) c.split-at.ensures.by_index.0 c.split-at.ensures.front-len in
+    let begins : Begins c.args.words.now c.split_at.result.0.now c.split_at.result.1.now =
+    enough c.args.words.now _ c.split_at.result.0.now c.split_at.result.1.now (omega (arith, ltb-false))
+    (take_all _ _ (simp length-drop (omega arith))) c.split_at.ensures.by_index.0 c.split_at.ensures.front_len in
     record {
       cases = begins;
-      bound = shorter c.args.words.now c.split-at.result.0.now c.split-at.result.1.now begins;
+      bound = shorter c.args.words.now c.split_at.result.0.now c.split_at.result.1.now begins;
     }

@@ -6,7 +6,7 @@ use Rattle.judge_cases.proofs.container.words_of.Goals as goal
 
 pub loop-rest-preserved : goal.loop-rest-preserved
 loop-rest-preserved c = (
-  one_more (words_of c.args.bytes.now) (vec_items c.loop-rest.words) (vec_items c.push.new.self) c.loop-rest.rest.now _ c.from-be-bytes.result
-      c.loop-rest.invariant.0 (omega (arith, ltb-false)) c.from-be-bytes.ensures (search rules) (take_all _ _ (simp length-drop (omega arith))),
+  one_more (words_of c.args.bytes.now) (vec_items c.loop-rest.words) (vec_items c.push.new.self) c.loop-rest.rest.now _ c.from_be_bytes.result
+      c.loop-rest.invariant.0 (omega (arith, ltb-false)) c.from_be_bytes.ensures (search rules) (take_all _ _ (simp length-drop (omega arith))),
   search rules,
 )
