@@ -1,6 +1,5 @@
 -- The drum task: three blocks with an l-block each, the middle one a loop. Assumes nothing.
 use Rattle.std.specs.Prelude.{◌≡◌, List, [], ◌∷◌, map, ℕ, ℤ, pos, negsuc, ◌*ℤ◌, length, set}
-use Rattle.words.specs.declared.refusal.Layer.{Layer}
 use Rattle.words.specs.declared.refusal.Layer.TheVariants.{Claim}
 use Rattle.words.specs.Words.{Answer, accepted, refused}
 use Rattle.sheet.specs.declared.parts.Conflict.{Conflict}

@@ -66,7 +66,7 @@ fn nanos(span: Duration) -> u64 {
 
 // Prints the shortest and the middle one of the times.
 fn print_times(rt: &HostRuntime, name: &str, times: &mut Vec<u64>) -> io::Result<()> {
-    times.sort();
+    times.sort_unstable();
     let best = times.first().copied().unwrap_or(0);
     let median = times.get(times.len() / 2).copied().unwrap_or(0);
     println!(rt; "{name} best {best} median {median}")
