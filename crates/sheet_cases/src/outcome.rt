@@ -49,7 +49,10 @@ pub fn refused(room: &mut SheetRoom, list: &[u32], number: u8, place: usize) -> 
     };
     answers(room, list, Some(expected))?;
     if !is_drum(room.sheet()) {
-        return Err(Fail::new("the sheet that was held is lost"));
+        let n = list.len();
+        return Err(Fail::new(format_args!(
+            "after a list of {n} words the sheet that was held is lost"
+        )));
     }
     Ok(())
 }
