@@ -58,12 +58,6 @@ def read(path):
         return it.read()
 
 
-def words(text, skip):
-    for part, skipped in pieces(text, skip):
-        if not skipped:
-            yield from (m[0] for m in TOKEN.finditer(part))
-
-
 def turned(text, skip, names, answers):
     """The text with the names respelled. Where it answers goals, what the prover names stays."""
 
