@@ -42,7 +42,7 @@ fn next(
         }
         return Ok(None);
     };
-    match Kind::of(word) {
+    match Kind::from(word) {
         Kind::Claim => {
             take_list(bytes, words);
             certificate(sheet, words, text)?;

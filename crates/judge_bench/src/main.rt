@@ -52,7 +52,7 @@ fn words_of(heap: Global, bytes: &[u8]) -> Result<Vec<u32>, AllocError> {
 fn first_list(heap: Global, bytes: &[u8]) -> Result<usize, AllocError> {
     let words = words_of(heap, bytes)?;
     for (i, word) in words.iter().enumerate() {
-        if matches!(Kind::of(*word), Kind::End) {
+        if matches!(Kind::from(*word), Kind::End) {
             return Ok(i.saturating_add(1).saturating_mul(4).min(bytes.len()));
         }
     }

@@ -20,7 +20,7 @@ fn word_of(a: u8, b: u8, c: u8, d: u8) -> u32
 fn is_end(word: u32) -> bool
     ensures { result ≡ same_kind (kind word) END }
 {
-    matches!(Kind::of(word), Kind::End)
+    matches!(Kind::from(word), Kind::End)
 }
 
 // The input's first list, in memory that is reserved: up to its END, the input's end or 4,096 words.

@@ -32,10 +32,10 @@ impl<'a> Reader<'a> {
         ensures same { self.new.words ≡ self.old.words }
         ensures takes { Takes self.old.words.now self.old.at result self.new.at }
     {
-        if self.at >= self.words.len() {
+        let Some(word) = self.words.get(self.at) else {
             return Err(WordFault::EndsEarly(self.at));
-        }
-        let word = Word::of(self.words[self.at]);
+        };
+        let word = Word::from(*word);
         self.at += 1;
         Ok(word)
     }
@@ -47,7 +47,7 @@ impl<'a> Reader<'a> {
     {
         let at = self.at;
         let word = self.next()?;
-        if word.kind as u8 != kind as u8 {
+        if word.kind != kind {
             self.at = at;
             return Err(WordFault::NotDue(at));
         }

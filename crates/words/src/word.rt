@@ -24,10 +24,10 @@ pub enum Kind {
     End,
 }
 
-impl Kind {
-    pub fn of(word: u32) -> Kind
-        ensures { result ≡ kind_of word }
-    {
+impl From<u32> for Kind {
+    ghost from_gives = { λ word kind. kind ≡ kind_of word };
+
+    fn from(word: u32) -> Kind {
         match word >> 28 {
             0 => Kind::Reserved,
             1 => Kind::Head,
@@ -53,13 +53,15 @@ impl Kind {
 #[derive(Clone, Copy, PartialEq, Eq, Debug)]
 pub struct Payload(pub u32);
 
-impl Payload {
-    pub fn of(word: u32) -> Payload
-        ensures { result.0 ≡ payload_of word }
-    {
+impl From<u32> for Payload {
+    ghost from_gives = { λ word payload. payload.0 ≡ payload_of word };
+
+    fn from(word: u32) -> Payload {
         Payload(word % 0x1000_0000)
     }
+}
 
+impl Payload {
     // Bits 27 to 14.
     pub fn upper(self) -> u32
         ensures { result ≡ upper_of self.0 }
@@ -131,13 +133,13 @@ pub struct Word {
     pub payload: Payload,
 }
 
-impl Word {
-    pub fn of(word: u32) -> Word
-        ensures { (result.kind ≡ kind_of word) × (result.payload.0 ≡ payload_of word) }
-    {
+impl From<u32> for Word {
+    ghost from_gives = { λ word parts. (parts.kind ≡ kind_of word) × (parts.payload.0 ≡ payload_of word) };
+
+    fn from(word: u32) -> Word {
         Word {
-            kind: Kind::of(word),
-            payload: Payload::of(word),
+            kind: Kind::from(word),
+            payload: Payload::from(word),
         }
     }
 }

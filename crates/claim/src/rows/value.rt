@@ -13,8 +13,8 @@ pub(crate) fn multiplier(pair: &[u32; 2]) -> Scaled
     ensures near { Near (2 ^ 40) result.0 }
 {
     let [first, second] = *pair;
-    let high = Payload::of(first);
-    let magnitude = magnitude(high, Payload::of(second)) as i64;
+    let high = Payload::from(first);
+    let magnitude = magnitude(high, Payload::from(second)) as i64;
     if high.minus() {
         Scaled(-magnitude)
     } else {

@@ -163,9 +163,9 @@ impl Draft {
         requires { at + 1 < 2 ^ 64 }
         ensures { Paired (items_of self.old) first second at result (items_of self.new) }
     {
-        let lblock = Word::of(first);
+        let lblock = Word::from(first);
         self.lblock_word(lblock, at)?;
-        self.cost_word(lblock.payload, Word::of(second), at + 1)
+        self.cost_word(lblock.payload, Word::from(second), at + 1)
     }
 
     // The fault where fewer than two words are left for an l-block.
@@ -177,7 +177,7 @@ impl Draft {
         let Some(first) = words.first() else {
             return SheetFault::Word(WordFault::EndsEarly(at));
         };
-        match self.lblock_word(Word::of(*first), at) {
+        match self.lblock_word(Word::from(*first), at) {
             Ok(()) => SheetFault::Word(WordFault::EndsEarly(at + 1)),
             Err(fault) => fault,
         }

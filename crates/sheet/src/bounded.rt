@@ -1,0 +1,73 @@
+// A list of at most N items, in memory that is reserved once.
+ghost use Rattle.std.specs.Prelude.{◌≡◌, ◌<◌, ◌≤◌, [], ◌∷◌, ◌++◌, length, replicate, IfOk, vec_len, vec_capacity, slice_set};
+
+use std::alloc::{AllocError, Global};
+
+#[derive(Drop)]
+pub struct BoundedVec<T, const N: usize> {
+    list: Vec<T>,
+    ghost room: { N ≤ vec_capacity list },
+    ghost few: { vec_len list ≤ N },
+}
+
+impl<T, const N: usize> BoundedVec<T, N> {
+    pub(crate) fn reserve(heap: Global) -> Result<BoundedVec<T, N>, AllocError>
+        ensures { IfOk result (λ v. v.list.items ≡ []) }
+    {
+        Ok(BoundedVec {
+            list: Vec::with_capacity(heap, N)?,
+        })
+    }
+
+    pub(crate) fn len(&self) -> usize
+        ensures count { result ≡ length self.now.list.items }
+        ensures fits { result ≤ N }
+    {
+        self.list.len()
+    }
+
+    pub(crate) fn as_slice(&self) -> &[T]
+        ensures items { result.now ≡ self.now.list.items }
+        ensures fits { length result.now ≤ N }
+    {
+        self.list.as_slice()
+    }
+
+    // One item more.
+    pub(crate) fn push(&mut self, item: T)
+        requires { length self.old.list.items < N }
+        ensures { self.new.list.items ≡ self.old.list.items ++ item ∷ [] }
+    {
+        self.list.push_reserved(item);
+    }
+}
+
+impl<T: Drop, const N: usize> BoundedVec<T, N> {
+    // No items, in the same memory.
+    pub(crate) fn clear(&mut self)
+        ensures { self.new.list.items ≡ [] }
+    {
+        self.list.clear();
+    }
+}
+
+impl<T: Copy + Drop, const N: usize> BoundedVec<T, N> {
+    // Another item in the place of one.
+    pub(crate) fn set(&mut self, i: usize, item: T)
+        requires { i < length self.old.list.items }
+        ensures { self.new.list.items ≡ slice_set self.old.list.items i item }
+    {
+        self.list[i] = item;
+    }
+
+    // So many times the same item.
+    pub(crate) fn refill(&mut self, n: usize, item: T)
+        requires { n ≤ N }
+        ensures { self.new.list.items ≡ replicate n item }
+    {
+        self.clear();
+        for _ in 0..n {
+            self.push(item);
+        }
+    }
+}
