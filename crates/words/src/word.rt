@@ -62,6 +62,8 @@ impl From<u32> for Payload {
 }
 
 impl Payload {
+    // Kept: nine fields that each are one shift, one remainder or both are plainer so than as calls of one `bits::<LOW, COUNT>()`.
+
     // Bits 27 to 14.
     pub fn upper(self) -> u32
         ensures { result ≡ upper_of self.0 }
