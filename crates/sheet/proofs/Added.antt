@@ -1,7 +1,7 @@
 -- Conflict edges that go to the end of a list, part by part. Assumes nothing.
-use Rattle.std.proofs.Common.{◌≡◌, ℕ, suc, ◌+◌, ◌-◌, ◌<◌, ◌≤◌, Bool, true, false, cond, List, [], ◌∷◌, ◌++◌, map, length, get_or, vec_items, filter, sym, refl, ap, ◌∙◌, subst, ap₂, arith, length-append}
+use Rattle.std.proofs.Common.{◌≡◌, ℕ, suc, ◌+◌, ◌-◌, ◌<◌, ◌≤◌, Bool, true, false, cond, List, [], ◌∷◌, ◌++◌, map, length, get_or, filter, sym, refl, ap, ◌∙◌, subst, ap₂, arith, length-append}
 use mathlib.Core.Option.{none, some}
-use Rattle.std.proofs.lemmas.List.{append-nil, append_assoc, map-append, get_or_read}
+use Rattle.std.proofs.lemmas.List.{append-nil, append_assoc, map-append}
 use Rattle.std.proofs.lemmas.List.Elements.{filter-append}
 use Rattle.std.proofs.lemmas.Bool.{le-leb, lt-leb}
 use Rattle.words.specs.Lists.{up_from, below, joined}
@@ -93,9 +93,8 @@ module _ (S : Sheet) where
 
   -- what a search that is done tells of a node's flag
   pub flag_tells : (s : ℕ) (u : Node) (r : Reach) → Reached S s u r → (k : ℕ) (v : Node) → k ≤ n → node S k ≡ v
-      → (b : Bool) → b ≡ get_or (vec_items r.seen) k b → conflicting S s u v ≡ b
-  flag_tells s u r h k v l is b e =
-      subst (λ y. conflicting S s u y ≡ b) is (sym (h.found k l) ∙ sym (get_or_read (vec_items r.seen) k b (omega (arith, h.sized)) e false))
+      → (flags : List Bool) → flags ≡ r.seen.list.items → conflicting S s u v ≡ get_or flags k false
+  flag_tells s u r h k v l is flags e = rw (← is, e) (sym (h.found k l))
 
   -- the sets, one after another: xs are the conflict edges of those before s
   passes_on : (s m : ℕ) (ss : List ℕ) → m + length (conflicts_of S s) ≤ 4096 → passing S (s ∷ ss) m ≡ passing S ss (m + length (conflicts_of S s))

@@ -1,5 +1,5 @@
 -- What a traversal of the fetch graph keeps: links between edges, flags of the nodes that it saw, and a queue of those to go on from. Assumes nothing.
-use Rattle.std.specs.Prelude.{◌≡◌, ℕ, suc, ◌+◌, ◌-◌, ◌<◌, ◌≤◌, Bool, true, false, cond, not, List, [], ◌∷◌, ◌++◌, length, get_or, vec_items, vec_capacity, count_by, ◌≢◌, nat_lt, slice_index, slice_index_or}
+use Rattle.std.specs.Prelude.{◌≡◌, ℕ, suc, ◌+◌, ◌-◌, ◌<◌, ◌≤◌, Bool, true, false, cond, not, List, [], ◌∷◌, ◌++◌, length, get_or, count_by, ◌≢◌, nat_lt, slice_index, slice_index_or}
 use Rattle.std.specs.List.{ContainsAt as Has, AllByRecursion}
 use Rattle.sheet.specs.declared.traversal.graph.Graph.{Graph}
 use Rattle.sheet.specs.declared.traversal.reach.Reach.{Reach}
@@ -58,34 +58,27 @@ sheet_of g = graph_of g.sets (length g.blocks.now) g.lblocks.now g.edges.now
 abbrev pub Searchable : Graph → Type 0
 Searchable g = Ready g.sets g.blocks.now g.lblocks.now g.edges.now g.latest.now g.before.now
 
--- memory for the flags and the queue of 512 l-blocks and END
-pub record Reserved (r : Reach) : Type 0 where
-  pub flags : 513 ≤ vec_capacity r.seen
-  pub places : 513 ≤ vec_capacity r.queue
-
 -- a traversal under way
-pub record Going (S : Sheet) (r : Reach) : Type 0 where
-  pub front : Front S r.set r.from (vec_items r.seen) (vec_items r.queue)
-  pub reserved : Reserved r
+abbrev pub Going : Sheet → Reach → Type 0
+Going S r = Front S r.set r.from r.seen.list.items r.queue.list.items
 
 -- it went on, by as much as it grew
 pub record On (S : Sheet) (r r' : Reach) : Type 0 where
   pub going : Going S r'
   pub same_set : r'.set ≡ r.set
   pub same_from : r'.from ≡ r.from
-  pub grown : Grown (vec_items r.seen) (vec_items r'.seen) (vec_items r.queue) (vec_items r'.queue)
+  pub grown : Grown r.seen.list.items r'.seen.list.items r.queue.list.items r'.queue.list.items
 
 -- whether the traversal saw node k
 abbrev pub saw : Reach → ℕ → Bool
-saw r k = slice_index_or (vec_items r.seen) k false
+saw r k = slice_index_or r.seen.list.items k false
 
 -- a traversal that is done: it saw the nodes that a path leads to from u with no l-block of set s strictly inside
 pub record Reached (S : Sheet) (s : ℕ) (u : Node) (r : Reach) : Type 0 where
   pub set_is : r.set ≡ s
   pub from_is : r.from ≡ u
-  pub sized : length (vec_items r.seen) ≡ suc (length S.lblocks)
+  pub sized : length r.seen.list.items ≡ suc (length S.lblocks)
   pub found : (k : ℕ) → k ≤ length S.lblocks → saw r k ≡ conflicting S s u (node S k)
-  pub reserved : Reserved r
 
 -- where a traversal can start
 abbrev pub Source : Sheet → Node → Type 0

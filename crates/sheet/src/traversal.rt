@@ -7,34 +7,25 @@ ghost use Rattle.std.specs.Prelude.{◌≤◌, length, vec_capacity};
 ghost use Rattle.sheet.specs.Sheet.{WellFormed};
 ghost use Rattle.sheet.specs.Graph.{graph_of, first_of, size_of, Table, Listed};
 
+use crate::bounded::BoundedVec;
 use crate::parts::{Block, Conflict, Edge, LBlock};
 use crate::traversal::graph::{Graph, link};
 use crate::traversal::reach::Reach;
 use std::alloc::{AllocError, Global};
 
-// A sheet has at most so many blocks.
-const MOST_BLOCKS: usize = 128;
-
-// And so many edges.
-const MOST_EDGES: usize = 512;
-
 // The memory of a traversal, for a sheet of any size.
 #[derive(Drop)]
 pub struct Traversal {
-    latest: Vec<usize>,
-    before: Vec<usize>,
+    latest: BoundedVec<usize, 128>,
+    before: BoundedVec<usize, 512>,
     reach: Reach,
-    ghost blocks: { 128 ≤ vec_capacity latest },
-    ghost edges: { 512 ≤ vec_capacity before },
-    ghost flags: { 513 ≤ vec_capacity reach.seen },
-    ghost places: { 513 ≤ vec_capacity reach.queue },
 }
 
 impl Traversal {
     pub(crate) fn reserve(heap: Global) -> Result<Traversal, AllocError> {
         Ok(Traversal {
-            latest: Vec::with_capacity(heap, MOST_BLOCKS)?,
-            before: Vec::with_capacity(heap, MOST_EDGES)?,
+            latest: BoundedVec::reserve(heap)?,
+            before: BoundedVec::reserve(heap)?,
             reach: Reach::reserve(heap)?,
         })
     }

@@ -1,7 +1,8 @@
-ghost use Rattle.std.specs.Prelude.{◌≡◌, ◌<◌, ◌≤◌, length, replicate, vec_capacity};
+ghost use Rattle.std.specs.Prelude.{◌<◌, ◌≤◌, length};
 ghost use Rattle.std.specs.List.{AllByRecursion};
 ghost use Rattle.sheet.specs.Traversal.{Linked};
 
+use crate::bounded::BoundedVec;
 use crate::parts::{Block, Edge, LBlock};
 
 // The blocks, l-blocks and edges of a sheet, with the edges from each block linked. `latest` has one more than the number of each block's
@@ -16,31 +17,22 @@ pub struct Graph<'a> {
     pub before: &'a [usize],
 }
 
-// `v` holds `x`, n times.
-pub(crate) fn refill<T: Copy>(v: &mut Vec<T>, n: usize, x: T)
-    requires { n ≤ vec_capacity v.old }
-    ensures items { v.new.items ≡ replicate n x }
-    ensures capacity { vec_capacity v.new ≡ vec_capacity v.old }
-{
-    v.clear();
-    for _ in 0..n {
-        v.push_reserved(x);
-    }
-}
-
 // Links the edges.
-pub(crate) fn link(blocks: usize, edges: &[Edge], latest: &mut Vec<usize>, before: &mut Vec<usize>)
+pub(crate) fn link(
+    blocks: usize,
+    edges: &[Edge],
+    latest: &mut BoundedVec<usize, 128>,
+    before: &mut BoundedVec<usize, 512>,
+)
     requires from { AllByRecursion (λ e. e.from < blocks) edges.now }
-    requires blocks { blocks ≤ vec_capacity latest.old }
-    requires edges { length edges.now ≤ vec_capacity before.old }
-    ensures linked { Linked edges.now blocks (length edges.now) latest.new.items before.new.items }
-    ensures capacity { vec_capacity latest.new ≡ vec_capacity latest.old }
-    ensures room { vec_capacity before.new ≡ vec_capacity before.old }
+    requires blocks { blocks ≤ 128 }
+    requires edges { length edges.now ≤ 512 }
+    ensures { Linked edges.now blocks (length edges.now) latest.new.list.items before.new.list.items }
 {
-    refill(latest, blocks, 0);
+    latest.refill(blocks, 0);
     before.clear();
     for e in edges {
-        before.push_reserved(latest[e.from]);
-        latest[e.from] = before.len();
+        before.push(latest.as_slice()[e.from]);
+        latest.set(e.from, before.len());
     }
 }

@@ -4,7 +4,7 @@ ghost use Rattle.words.specs.Lists.{any};
 ghost use Rattle.sheet.specs.Conflict.{END};
 ghost use Rattle.sheet.specs.ConflictList.{conflicts_from, conflicts_of};
 ghost use Rattle.sheet.specs.Graph.{Listed};
-ghost use Rattle.sheet.specs.Traversal.{Searchable, sheet_of, Reserved, Source, Reached, Added, edge_to, edge_at, edges_from, edges_of};
+ghost use Rattle.sheet.specs.Traversal.{Searchable, sheet_of, Source, Reached, Added, edge_to, edge_at, edges_from, edges_of};
 
 use crate::parts::{Conflict, LBlock, Node};
 use crate::traversal::graph::Graph;
@@ -27,7 +27,7 @@ impl Reach {
         if g.lblocks[v].set != self.set {
             return true;
         }
-        if !self.seen[v] {
+        if !self.seen.as_slice()[v] {
             return true;
         }
         put(
@@ -49,7 +49,7 @@ impl Reach {
         ensures added { Added out.old.items (edge_to (sheet_of g.now) self.now.set self.now.from END) result out.new.items }
         ensures room { 4096 ≤ vec_capacity out.new }
     {
-        if !self.seen[g.lblocks.len()] {
+        if !self.seen.as_slice()[g.lblocks.len()] {
             return true;
         }
         put(
@@ -82,13 +82,11 @@ impl Reach {
     // Lists the conflict edges of a set from a node.
     fn list_from(&mut self, g: &Graph, set: usize, from: Node, out: &mut Vec<Conflict>) -> bool
         requires graph { Searchable g.now }
-        requires reserved { Reserved self.old }
         requires source { Source (sheet_of g.now) from }
         requires room { 4096 ≤ vec_capacity out.old }
         requires few { vec_len out.old ≤ 4096 }
         ensures added { Added out.old.items (conflicts_from (sheet_of g.now) set from) result out.new.items }
         ensures room { 4096 ≤ vec_capacity out.new }
-        ensures reserved { Reserved self.new }
     {
         self.run(g, set, from);
         self.list(g, out)
@@ -97,13 +95,11 @@ impl Reach {
     // Lists the conflict edges of a set from l-block v, if it is of the set.
     fn list_lblock(&mut self, g: &Graph, set: usize, v: usize, out: &mut Vec<Conflict>) -> bool
         requires graph { Searchable g.now }
-        requires reserved { Reserved self.old }
         requires known { v < length g.now.lblocks.now }
         requires room { 4096 ≤ vec_capacity out.old }
         requires few { vec_len out.old ≤ 4096 }
         ensures added { Added out.old.items (edges_from (sheet_of g.now) set v) result out.new.items }
         ensures room { 4096 ≤ vec_capacity out.new }
-        ensures reserved { Reserved self.new }
     {
         if g.lblocks[v].set != set {
             return true;
@@ -114,12 +110,10 @@ impl Reach {
     // Lists the conflict edges of a set.
     fn list_set(&mut self, g: &Graph, set: usize, out: &mut Vec<Conflict>) -> bool
         requires graph { Searchable g.now }
-        requires reserved { Reserved self.old }
         requires room { 4096 ≤ vec_capacity out.old }
         requires few { vec_len out.old ≤ 4096 }
         ensures added { Added out.old.items (conflicts_of (sheet_of g.now) set) result out.new.items }
         ensures room { 4096 ≤ vec_capacity out.new }
-        ensures reserved { Reserved self.new }
     {
         if !self.list_from(g, set, Node::Start, out) {
             return false;
@@ -135,12 +129,10 @@ impl Reach {
     // Lists the conflict edges of a set, if it is used.
     fn list_used(&mut self, g: &Graph, set: usize, out: &mut Vec<Conflict>) -> bool
         requires graph { Searchable g.now }
-        requires reserved { Reserved self.old }
         requires room { 4096 ≤ vec_capacity out.old }
         requires few { vec_len out.old ≤ 4096 }
         ensures added { Added out.old.items (edges_of (sheet_of g.now) set) result out.new.items }
         ensures room { 4096 ≤ vec_capacity out.new }
-        ensures reserved { Reserved self.new }
     {
         if !is_used(g.lblocks, set) {
             return true;
@@ -151,11 +143,9 @@ impl Reach {
     // Lists the conflict edges of all sets, or says with which there are too many.
     pub(crate) fn list_all(&mut self, g: &Graph, out: &mut Vec<Conflict>) -> Result<(), usize>
         requires graph { Searchable g.now }
-        requires reserved { Reserved self.old }
         requires room { 4096 ≤ vec_capacity out.old }
         ensures listed { Listed (sheet_of g.now) result out.new.items }
         ensures room { 4096 ≤ vec_capacity out.new }
-        ensures reserved { Reserved self.new }
     {
         out.clear();
         for set in 0..g.sets {

@@ -1,16 +1,14 @@
-ghost use Rattle.std.specs.Prelude.{◌≡◌, ℕ, ◌+◌, ◌<◌, ◌≤◌, true, false, length, IfOk};
+ghost use Rattle.std.specs.Prelude.{◌≡◌, ℕ, ◌+◌, ◌<◌, ◌≤◌, true, length};
 ghost use Rattle.std.specs.List.{ContainsAt as Has};
 ghost use Rattle.sheet.specs.Walk.{edge};
 ghost use Rattle.sheet.specs.Conflict.{at, Arrow, Leads};
 ghost use Rattle.sheet.specs.Graph.{first_of};
-ghost use Rattle.sheet.specs.Traversal.{Searchable, sheet_of, node, Reserved, Going, On, saw, Source, Reached};
+ghost use Rattle.sheet.specs.Traversal.{Searchable, sheet_of, node, Going, On, saw, Source, Reached};
 
+use crate::bounded::BoundedVec;
 use crate::parts::Node;
-use crate::traversal::graph::{Graph, refill};
+use crate::traversal::graph::Graph;
 use std::alloc::{AllocError, Global};
-
-// A sheet has at most so many l-blocks.
-const MOST_LBLOCKS: usize = 512;
 
 // A traversal of the fetch graph from one node, that does not go on after an l-block of the set. L-blocks have their numbers, and END the one
 // after. It flags the nodes that it saw, and those that it goes on from it queues.
@@ -18,19 +16,17 @@ const MOST_LBLOCKS: usize = 512;
 pub struct Reach {
     pub set: usize,
     pub from: Node,
-    pub seen: Vec<bool>,
-    pub queue: Vec<usize>,
+    pub seen: BoundedVec<bool, 513>,
+    pub queue: BoundedVec<usize, 513>,
 }
 
 impl Reach {
-    pub(crate) fn reserve(heap: Global) -> Result<Reach, AllocError>
-        ensures { IfOk result Reserved }
-    {
+    pub(crate) fn reserve(heap: Global) -> Result<Reach, AllocError> {
         Ok(Reach {
             set: 0,
             from: Node::Start,
-            seen: Vec::with_capacity(heap, MOST_LBLOCKS + 1)?,
-            queue: Vec::with_capacity(heap, MOST_LBLOCKS + 1)?,
+            seen: BoundedVec::reserve(heap)?,
+            queue: BoundedVec::reserve(heap)?,
         })
     }
 
@@ -43,17 +39,17 @@ impl Reach {
         ensures on { On (sheet_of g.now) self.old self.new }
         ensures saw { saw self.new k ≡ true }
     {
-        if self.seen[k] {
+        if self.seen.as_slice()[k] {
             return;
         }
-        self.seen[k] = true;
+        self.seen.set(k, true);
         if k == g.lblocks.len() {
             return;
         }
         if g.lblocks[k].set == self.set {
             return;
         }
-        self.queue.push_reserved(k);
+        self.queue.push(k);
     }
 
     // Sees the first l-block of each block that an edge leads to from block b.
@@ -97,7 +93,6 @@ impl Reach {
     // Makes ready for a traversal.
     fn reset(&mut self, g: &Graph, set: usize, from: Node)
         requires graph { Searchable g.now }
-        requires reserved { Reserved self.old }
         ensures going { Going (sheet_of g.now) self.new }
         ensures set { self.new.set ≡ set }
         ensures from { self.new.from ≡ from }
@@ -105,13 +100,12 @@ impl Reach {
         self.set = set;
         self.from = from;
         self.queue.clear();
-        refill(&mut self.seen, g.lblocks.len() + 1, false);
+        self.seen.refill(g.lblocks.len() + 1, false);
     }
 
     // Sees each node that an arrow leads to from `from`.
     fn begin(&mut self, g: &Graph, set: usize, from: Node)
         requires graph { Searchable g.now }
-        requires reserved { Reserved self.old }
         requires source { Source (sheet_of g.now) from }
         ensures going { Going (sheet_of g.now) self.new }
         ensures set { self.new.set ≡ set }
@@ -129,14 +123,13 @@ impl Reach {
     // Sees exactly the nodes that a path leads to from `from` with no l-block of the set strictly inside.
     pub(crate) fn run(&mut self, g: &Graph, set: usize, from: Node)
         requires graph { Searchable g.now }
-        requires reserved { Reserved self.old }
         requires source { Source (sheet_of g.now) from }
         ensures { Reached (sheet_of g.now) set from self.new }
     {
         self.begin(g, set, from);
         let mut head = 0;
         while head < self.queue.len() {
-            let x = self.queue[head];
+            let x = self.queue.as_slice()[head];
             self.spread(g, x);
             head += 1;
         }

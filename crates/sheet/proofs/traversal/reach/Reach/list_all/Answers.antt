@@ -10,7 +10,6 @@ returns-then-not-list_used c =
       listed = sym c.loop-set.invariant.1
           ∙ passing_over S (vec_items c.loop-set.out) c.loop-set.set c.loop-set-test.true (omega (arith, c.loop-set.invariant.2)) c.if-not-list_used.ensures.added;
       room = c.list_used.ensures.room;
-      reserved = c.list_used.ensures.reserved;
     }
 
 pub loop-set-preserved : goal.loop-set-preserved
@@ -23,7 +22,6 @@ loop-set-preserved c =
       passing_more S xs ys c.loop-set.set c.loop-set-test.true h ∙ c.loop-set.invariant.1,
       omega (arith, h.1),
       c.list_used.ensures.room,
-      c.list_used.ensures.reserved,
     )
 
 pub returns : goal.returns
@@ -36,5 +34,4 @@ returns c =
         rest_all (edges_of S) S.sets _ xs c.loop-set.set c.loop-set-test.false c.loop-set.invariant.0 ∙ all_parts S,
       );
       room = c.loop-set.invariant.3;
-      reserved = c.loop-set.invariant.4;
     }

@@ -2,7 +2,7 @@ use Rattle.std.proofs.Common.{◌≡◌, ◌-◌, ◌≤◌, ◌++◌, length, v
 use Rattle.words.specs.Lists.{up_from, below, joined}
 use Rattle.sheet.specs.Conflict.{used, used_sets}
 use Rattle.sheet.specs.ReadSheet.{passing}
-use Rattle.sheet.specs.Traversal.{sheet_of, Reserved, edges_of}
+use Rattle.sheet.specs.Traversal.{sheet_of, edges_of}
 use Rattle.sheet.proofs.traversal.reach.Reach.list_all.Given as goal
 
 -- with the edges of the sets that are left, the list is whole, and it passes 4,096 with the same set
@@ -13,4 +13,3 @@ invariant-loop-set l =
     ≡ passing (sheet_of l.g) (used_sets (sheet_of l.g)) 0)
     × (vec_len l.out ≤ 4096)
     × (4096 ≤ vec_capacity l.out)
-    × Reserved l.self

@@ -16,7 +16,6 @@ returns-then-not-list_from c =
     record {
       added = subst (λ ys. 4096 < length xs + length ys) (of_parts S s) (omega (arith, h, length-append (conflicts_from S s START) rest));
       room = c.list_from.ensures.room;
-      reserved = c.list_from.ensures.reserved;
     }
 
 pub returns-then-not-list_lblock : goal.returns-then-not-list_lblock
@@ -31,7 +30,6 @@ returns-then-not-list_lblock c =
       added = subst (λ zs. 4096 < length xs + length zs) (of_parts S s)
           (added_after xs (conflicts_from S s START) rest ys false ys c.if-not-list_from.ensures.added.0 (omega (arith, h, length-append ys rest)));
       room = c.list_lblock.ensures.room;
-      reserved = c.list_lblock.ensures.reserved;
     }
 
 pub loop-v-preserved : goal.loop-v-preserved
@@ -41,7 +39,6 @@ loop-v-preserved c =
       rest_more (edges_from S c.args.set) (length S.lblocks) _ (vec_items c.loop-v.out) (vec_items c.list_lblock.new.out) c.loop-v.v c.loop-v-test.true c.loop-v.invariant.0 h.0,
       omega (arith, h.1),
       c.list_lblock.ensures.room,
-      c.list_lblock.ensures.reserved,
     )
 
 pub returns : goal.returns
@@ -56,5 +53,4 @@ returns c =
           (added_after xs (conflicts_from S s START) rest ys true (vec_items c.loop-v.out) c.if-not-list_from.ensures.added.0
           (rest_all (edges_from S s) (length S.lblocks) (ys ++ rest) (vec_items c.loop-v.out) c.loop-v.v c.loop-v-test.false c.loop-v.invariant.0, omega (arith, c.loop-v.invariant.1)));
       room = c.loop-v.invariant.2;
-      reserved = c.loop-v.invariant.3;
     }

@@ -1,5 +1,4 @@
-use Rattle.std.proofs.Common.{◌≡◌, ℕ, ◌<◌, true, false, length, vec_items, sym, ◌∙◌, subst, subst₂, arith}
-use Rattle.std.proofs.lemmas.List.{get_or_read}
+use Rattle.std.proofs.Common.{◌≡◌, ℕ, ◌<◌, true, false, length, get_or, sym, ap, ◌∙◌, subst, subst₂, arith}
 use Rattle.std.proofs.ByRecursion.{All-get_or}
 use Rattle.sheet.specs.Conflict.{at, Leads, more, in_set}
 use Rattle.sheet.specs.Traversal.{sheet_of, saw, Front}
@@ -11,11 +10,11 @@ pub spread-requires : goal.spread-requires
 spread-requires c =
     let S = sheet_of c.args.g.now in
     let r = c.loop-head.self in
-    let f = c.loop-head.invariant.0.going.front in
-    let x = c.index-x.result.now in
-    let l : c.loop-head.head < length (vec_items r.queue) = omega (arith, c.loop-head-test.true) in
+    let f = c.loop-head.invariant.0.going in
+    let x = get_or c.as_slice.result.now c.loop-head.head 0 in
+    let l : c.loop-head.head < length r.queue.list.items = omega (arith, c.loop-head-test.true) in
     let P : ℕ → Type 0 = λ q. (q < length S.lblocks) × (in_set S r.set (at q) ≡ false) × (saw r q ≡ true) in
-    let h = subst P (sym (get_or_read (vec_items r.queue) c.loop-head.head x l c.index-x.ensures 0)) (All-get_or P (vec_items r.queue) c.loop-head.head 0 l f.inner) in
+    let h = subst P (sym (ap (λ q. get_or q c.loop-head.head 0) c.as_slice.ensures.items)) (All-get_or P r.queue.list.items c.loop-head.head 0 l f.inner) in
     record {
       graph = c.requires.graph;
       going = c.loop-head.invariant.0.going;
@@ -33,10 +32,9 @@ returns c =
     record {
       set_is = set_is;
       from_is = from_is;
-      sized = on.going.front.sized;
-      found = front_done S c.args.set c.args.from (vec_items r.seen) (vec_items r.queue)
-          (subst₂ (λ s u. Front S s u (vec_items r.seen) (vec_items r.queue)) set_is from_is on.going.front)
+      sized = on.going.sized;
+      found = front_done S c.args.set c.args.from r.seen.list.items r.queue.list.items
+          (subst₂ (λ s u. Front S s u r.seen.list.items r.queue.list.items) set_is from_is on.going)
           (λ k l a. on.grown.seen_kept k (c.begin.ensures.saw k l a))
           (λ i l. c.loop-head.invariant.2 i (omega (arith, c.loop-head-test.false)));
-      reserved = on.going.reserved;
     }

@@ -1,4 +1,4 @@
-use Rattle.std.proofs.Common.{◌≡◌, ℕ, ◌-◌, ◌<◌, ◌≤◌, true, length, get_or, vec_items}
+use Rattle.std.proofs.Common.{◌≡◌, ℕ, ◌-◌, ◌<◌, ◌≤◌, true, length, get_or}
 use Rattle.sheet.specs.Conflict.{at, Arrow}
 use Rattle.sheet.specs.Traversal.{sheet_of, node, On, saw}
 use Rattle.sheet.proofs.traversal.reach.Reach.run.Given as goal
@@ -7,8 +7,8 @@ use Rattle.sheet.proofs.traversal.reach.Reach.run.Given as goal
 abbrev pub invariant-loop-head : goal.invariant-loop-head
 invariant-loop-head l =
     On (sheet_of l.g) l.initial.self l.self
-    × (l.head ≤ length (vec_items l.self.queue))
-    × ((i : ℕ) → i < l.head → (k : ℕ) → k ≤ length l.g.lblocks.now → Arrow (sheet_of l.g) (at (get_or (vec_items l.self.queue) i 0)) (node (sheet_of l.g) k)
+    × (l.head ≤ length l.self.queue.list.items)
+    × ((i : ℕ) → i < l.head → (k : ℕ) → k ≤ length l.g.lblocks.now → Arrow (sheet_of l.g) (at (get_or l.self.queue.list.items i 0)) (node (sheet_of l.g) k)
     → saw l.self k ≡ true)
 
 abbrev pub decreases-loop-head : goal.decreases-loop-head
