@@ -1,8 +1,10 @@
 -- What a traversal of the fetch graph keeps: links between edges, flags of the nodes that it saw, and a queue of those to go on from. Assumes nothing.
-use Rattle.std.specs.Prelude.{◌≡◌, ℕ, suc, ◌+◌, ◌-◌, ◌<◌, ◌≤◌, Bool, true, false, cond, not, List, [], ◌∷◌, ◌++◌, length, get_or, count_by, ◌≢◌, nat_lt, slice_index, slice_index_or}
+use Rattle.std.specs.Prelude.{◌≡◌, ℕ, suc, ◌+◌, ◌-◌, ◌<◌, ◌≤◌, Bool, true, false, cond, not, List, [], ◌∷◌, ◌++◌, length, Ok, Err, Result, get_or, count_by, ◌≢◌, nat_lt, slice_index, slice_index_or}
 use Rattle.std.specs.List.{ContainsAt as Has, AllByRecursion}
 use Rattle.sheet.specs.declared.traversal.graph.Graph.{Graph}
 use Rattle.sheet.specs.declared.traversal.reach.Reach.{Reach}
+use Rattle.sheet.specs.declared.fault.SheetFault.{SheetFault}
+use Rattle.sheet.specs.declared.fault.SheetFault.TheVariants.{TooManyConflicts}
 use Rattle.sheet.specs.Sheet.{Sheet, LBlock, Edge, WellFormed}
 use Rattle.sheet.specs.Conflict.{Node, START, at, END, Leads, in_set, used, Conflict}
 use Rattle.sheet.specs.ConflictList.{conflicting, conflicts_from, conflicts_of}
@@ -86,10 +88,14 @@ Source S START = Unit {0}
 Source S (at v) = v < length S.lblocks
 Source S END = Unit {0}
 
--- Conflict edges go to the end of a list while there are at most 4,096; where there would be more, false is answered.
-abbrev pub Added : List Conflict → List Conflict → Bool → List Conflict → Type 0
-Added xs added true ys = (ys ≡ xs ++ added) × (length ys ≤ 4096)
-Added xs added false ys = 4096 < length xs + length added
+-- Conflict edges of a set go to the end of a list while there are at most 4,096; where there would be more, the set is answered.
+abbrev pub Added : ℕ → List Conflict → List Conflict → Result (Unit {0}) SheetFault → List Conflict → Type 0
+Added s xs added (Ok u) ys = ys ≡ xs ++ added
+Added s xs added (Err e) ys = (4096 < length xs + length added) × (e ≡ TooManyConflicts s)
+
+-- the conflict edge to a node, by the flag of its number
+abbrev pub seen_edge : Reach → ℕ → Node → List Conflict
+seen_edge r k v = cond (saw r k) (record { set = r.set; from = r.from; to = v } ∷ []) []
 
 -- the conflict edge of a set from one node to another, if there is one; that to an l-block, if it is of the set
 abbrev pub edge_to : Sheet → ℕ → Node → Node → List Conflict

@@ -3,11 +3,13 @@ mod graph;
 pub mod list;
 mod reach;
 
-ghost use Rattle.std.specs.Prelude.{◌≤◌, length, vec_capacity};
+ghost use Rattle.std.specs.Prelude.{◌≤◌, length};
 ghost use Rattle.sheet.specs.Sheet.{WellFormed};
-ghost use Rattle.sheet.specs.Graph.{graph_of, first_of, size_of, Table, Listed};
+ghost use Rattle.sheet.specs.Graph.{graph_of, first_of, size_of, Table};
+ghost use Rattle.sheet.specs.Reads.{Found};
 
 use crate::bounded::BoundedVec;
+use crate::fault::SheetFault;
 use crate::parts::{Block, Conflict, Edge, LBlock};
 use crate::traversal::graph::{Graph, link};
 use crate::traversal::reach::Reach;
@@ -37,16 +39,14 @@ impl Traversal {
         blocks: &'a [Block],
         lblocks: &'a [LBlock],
         edges: &'a [Edge],
-        out: &mut Vec<Conflict>,
-    ) -> Result<(), usize>
+        out: &mut BoundedVec<Conflict, 4096>,
+    ) -> Result<(), SheetFault>
         requires formed { WellFormed (graph_of sets (length blocks.now) lblocks.now edges.now) }
         requires table { Table (graph_of sets (length blocks.now) lblocks.now edges.now) (first_of blocks.now) (size_of blocks.now) }
         requires blocks { length blocks.now ≤ 128 }
         requires lblocks { length lblocks.now ≤ 512 }
         requires edges { length edges.now ≤ 512 }
-        requires room { 4096 ≤ vec_capacity out.old }
-        ensures listed { Listed (graph_of sets (length blocks.now) lblocks.now edges.now) result out.new.items }
-        ensures room { 4096 ≤ vec_capacity out.new }
+        ensures { Found (graph_of sets (length blocks.now) lblocks.now edges.now) result out.new.list.items }
     {
         link(blocks.len(), edges, &mut self.latest, &mut self.before);
         let g = Graph {
