@@ -2,8 +2,8 @@
 use Rattle.std.proofs.Common.{◌≡◌, ℕ, ◌+◌, ◌-◌, ◌<◌, List, [], ◌∷◌, ◌++◌, get_or, set, replicate, sym, refl, ap, ◌∙◌, subst, ⊎_elim, arith, length-set}
 use Rattle.std.proofs.lemmas.List.{get_or-set_same, get_or-set_other, get_or_append_left, get_or_push, length_push, length-replicate, get_or-replicate}
 use Rattle.std.proofs.lemmas.Bool.{cases_eq}
+use Rattle.sheet.specs.Graph.{no_edge, Latest, Linked}
 use Rattle.sheet.specs.Sheet.{Edge}
-use Rattle.sheet.specs.Traversal.{no_edge, Latest, Linked}
 
 module _ (es : List Edge) where
   latest_none : {b : ℕ} → Latest es b 0 0

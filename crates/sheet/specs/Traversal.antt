@@ -1,39 +1,14 @@
--- What a traversal of the fetch graph keeps: links between edges, flags of the nodes that it saw, and a queue of those to go on from. Assumes nothing.
-use Rattle.std.specs.Prelude.{◌≡◌, ℕ, suc, ◌+◌, ◌-◌, ◌<◌, ◌≤◌, Bool, true, false, cond, not, List, [], ◌∷◌, ◌++◌, length, Ok, Err, Result, get_or, count_by, ◌≢◌, nat_lt, slice_index, slice_index_or}
+-- What a traversal of the fetch graph keeps: flags of the nodes that it saw, and a queue of those to go on from. Assumes nothing.
+use Rattle.std.specs.Prelude.{◌≡◌, ℕ, suc, ◌+◌, ◌<◌, ◌≤◌, Bool, true, false, cond, not, List, [], ◌∷◌, ◌++◌, length, Ok, Err, Result, count_by, nat_lt, slice_index, slice_index_or}
 use Rattle.std.specs.List.{ContainsAt as Has, AllByRecursion}
 use Rattle.sheet.specs.declared.traversal.graph.Graph.{Graph}
 use Rattle.sheet.specs.declared.traversal.reach.Reach.{Reach}
 use Rattle.sheet.specs.declared.fault.SheetFault.{SheetFault}
 use Rattle.sheet.specs.declared.fault.SheetFault.TheVariants.{TooManyConflicts}
-use Rattle.sheet.specs.Sheet.{Sheet, LBlock, Edge, WellFormed}
+use Rattle.sheet.specs.Sheet.{Sheet}
 use Rattle.sheet.specs.Conflict.{Node, START, at, END, Leads, in_set, used, Conflict}
 use Rattle.sheet.specs.ConflictList.{conflicting, conflicts_from, conflicts_of}
-use Rattle.sheet.specs.Graph.{Block, graph_of, first_of, size_of, Table}
-
-abbrev pub no_edge : Edge
-no_edge = record { from = 0; to = 0 }
-
--- edge h - 1 is the last from block b among the first k edges; where h is 0, there is none
-pub record Latest (es : List Edge) (b k h : ℕ) : Type 0 where
-  pub early : h ≤ k
-  pub its_own : 0 < h → (get_or es (h - 1) no_edge).from ≡ b
-  pub none_after : (j : ℕ) → h ≤ j → j < k → (get_or es j no_edge).from ≢ b
-
--- the first k edges are linked: `latest` has each block's last edge, and `before` the edge before each edge from the same block
-pub record Linked (es : List Edge) (blocks k : ℕ) (latest before : List ℕ) : Type 0 where
-  pub each_block : length latest ≡ blocks
-  pub each_edge : length before ≡ k
-  pub last_edges : (b : ℕ) → b < blocks → Latest es b k (slice_index latest b)
-  pub earlier : (e : ℕ) → e < k → Latest es (get_or es e no_edge).from e (slice_index before e)
-
--- a graph that a traversal can go over
-pub record Ready (sets : ℕ) (bs : List Block) (ls : List LBlock) (es : List Edge) (latest before : List ℕ) : Type 0 where
-  pub formed : WellFormed (graph_of sets (length bs) ls es)
-  pub table : Table (graph_of sets (length bs) ls es) (first_of bs) (size_of bs)
-  pub few_blocks : length bs ≤ 128
-  pub few_lblocks : length ls ≤ 512
-  pub few_edges : length es ≤ 512
-  pub linked : Linked es (length bs) (length es) latest before
+use Rattle.sheet.specs.Graph.{graph_of}
 
 -- the node with a number: the l-blocks have theirs, and END the one after
 unfoldable pub node : Sheet → ℕ → Node
@@ -53,12 +28,9 @@ pub record Grown (seen seen' : List Bool) (queue queue' : List ℕ) : Type 0 whe
   pub longer : length queue ≤ length queue'
   pub queue_kept : (i : ℕ) → i < length queue → slice_index queue' i ≡ slice_index queue i
 
--- the sheet of a graph, and that a traversal can go over it
+-- the sheet of a graph
 abbrev pub sheet_of : Graph → Sheet
 sheet_of g = graph_of g.sets (length g.blocks.now) g.lblocks.now g.edges.now
-
-abbrev pub Searchable : Graph → Type 0
-Searchable g = Ready g.sets g.blocks.now g.lblocks.now g.edges.now g.latest.now g.before.now
 
 -- a traversal under way
 abbrev pub Going : Sheet → Reach → Type 0

@@ -1,6 +1,7 @@
 ghost use Rattle.std.specs.Prelude.{◌<◌, ◌≤◌, length};
 ghost use Rattle.std.specs.List.{AllByRecursion};
-ghost use Rattle.sheet.specs.Traversal.{Linked};
+ghost use Rattle.std.proofs.Props.{props};
+ghost use Rattle.sheet.specs.Graph.{Linked, Ready};
 
 use crate::bounded::BoundedVec;
 use crate::parts::{Block, Edge, LBlock};
@@ -15,6 +16,7 @@ pub struct Graph<'a> {
     pub edges: &'a [Edge],
     pub latest: &'a [usize],
     pub before: &'a [usize],
+    ghost ready: { Ready sets blocks.now lblocks.now edges.now latest.now before.now } by { Prim.hlevel props },
 }
 
 // Links the edges.

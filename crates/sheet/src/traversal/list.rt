@@ -3,7 +3,7 @@ ghost use Rattle.std.specs.Prelude.{◌≡◌, ◌<◌, [], ◌∷◌, length, n
 ghost use Rattle.words.specs.Lists.{any};
 ghost use Rattle.sheet.specs.ConflictList.{conflicts_from, conflicts_of};
 ghost use Rattle.sheet.specs.Reads.{Found};
-ghost use Rattle.sheet.specs.Traversal.{Searchable, sheet_of, Source, Reached, Added, seen_edge};
+ghost use Rattle.sheet.specs.Traversal.{sheet_of, Source, Reached, Added, seen_edge};
 
 use crate::bounded::BoundedVec;
 use crate::fault::SheetFault;
@@ -37,7 +37,6 @@ impl Reach {
 
     // Lists the conflict edges from `from`.
     fn list(&self, g: &Graph, out: &mut BoundedVec<Conflict, 4096>) -> Result<(), SheetFault>
-        requires graph { Searchable g.now }
         requires reached { Reached (sheet_of g.now) self.now.set self.now.from self.now }
         ensures { Added self.now.set out.old.list.items (conflicts_from (sheet_of g.now) self.now.set self.now.from) result out.new.list.items }
     {
@@ -57,7 +56,6 @@ impl Reach {
         from: Node,
         out: &mut BoundedVec<Conflict, 4096>,
     ) -> Result<(), SheetFault>
-        requires graph { Searchable g.now }
         requires source { Source (sheet_of g.now) from }
         ensures { Added set out.old.list.items (conflicts_from (sheet_of g.now) set from) result out.new.list.items }
     {
@@ -72,7 +70,6 @@ impl Reach {
         set: usize,
         out: &mut BoundedVec<Conflict, 4096>,
     ) -> Result<(), SheetFault>
-        requires { Searchable g.now }
         ensures { Added set out.old.list.items (conflicts_of (sheet_of g.now) set) result out.new.list.items }
     {
         self.list_from(g, set, Node::Start, out)?;
@@ -90,7 +87,6 @@ impl Reach {
         g: &Graph,
         out: &mut BoundedVec<Conflict, 4096>,
     ) -> Result<(), SheetFault>
-        requires { Searchable g.now }
         ensures { Found (sheet_of g.now) result out.new.list.items }
     {
         out.clear();

@@ -3,7 +3,7 @@ ghost use Rattle.std.specs.List.{ContainsAt as Has};
 ghost use Rattle.sheet.specs.Walk.{edge};
 ghost use Rattle.sheet.specs.Conflict.{at, Arrow, Leads};
 ghost use Rattle.sheet.specs.Graph.{first_of};
-ghost use Rattle.sheet.specs.Traversal.{Searchable, sheet_of, node, Going, On, saw, Source, Reached};
+ghost use Rattle.sheet.specs.Traversal.{sheet_of, node, Going, On, saw, Source, Reached};
 
 use crate::bounded::BoundedVec;
 use crate::parts::Node;
@@ -32,7 +32,6 @@ impl Reach {
 
     // Sees a node.
     fn visit(&mut self, g: &Graph, k: usize)
-        requires graph { Searchable g.now }
         requires going { Going (sheet_of g.now) self.old }
         requires known { k ≤ length g.now.lblocks.now }
         requires leads { Leads (sheet_of g.now) self.old.set self.old.from (node (sheet_of g.now) k) }
@@ -54,7 +53,6 @@ impl Reach {
 
     // Sees the first l-block of each block that an edge leads to from block b.
     fn follow(&mut self, g: &Graph, b: usize)
-        requires graph { Searchable g.now }
         requires going { Going (sheet_of g.now) self.old }
         requires known { b < length g.now.blocks.now }
         requires leads { (t : ℕ) → Has g.now.edges.now (edge b t) → Leads (sheet_of g.now) self.old.set self.old.from (at (first_of g.now.blocks.now t)) }
@@ -71,7 +69,6 @@ impl Reach {
 
     // Sees each node that an arrow leads to from l-block x.
     fn spread(&mut self, g: &Graph, x: usize)
-        requires graph { Searchable g.now }
         requires going { Going (sheet_of g.now) self.old }
         requires known { x < length g.now.lblocks.now }
         requires leads { (y : Node) → Arrow (sheet_of g.now) (at x) y → Leads (sheet_of g.now) self.old.set self.old.from y }
@@ -92,7 +89,6 @@ impl Reach {
 
     // Makes ready for a traversal.
     fn reset(&mut self, g: &Graph, set: usize, from: Node)
-        requires graph { Searchable g.now }
         ensures going { Going (sheet_of g.now) self.new }
         ensures set { self.new.set ≡ set }
         ensures from { self.new.from ≡ from }
@@ -105,7 +101,6 @@ impl Reach {
 
     // Sees each node that an arrow leads to from `from`.
     fn begin(&mut self, g: &Graph, set: usize, from: Node)
-        requires graph { Searchable g.now }
         requires source { Source (sheet_of g.now) from }
         ensures going { Going (sheet_of g.now) self.new }
         ensures set { self.new.set ≡ set }
@@ -122,7 +117,6 @@ impl Reach {
 
     // Sees exactly the nodes that a path leads to from `from` with no l-block of the set strictly inside.
     pub(crate) fn run(&mut self, g: &Graph, set: usize, from: Node)
-        requires graph { Searchable g.now }
         requires source { Source (sheet_of g.now) from }
         ensures { Reached (sheet_of g.now) set from self.new }
     {

@@ -1,5 +1,5 @@
+use Rattle.sheet.specs.Graph.{Linked}
 use Rattle.std.proofs.Common.{sym, subst₂}
-use Rattle.sheet.specs.Traversal.{Linked}
 use Rattle.sheet.proofs.Links.{linked_none}
 use Rattle.sheet.proofs.traversal.graph.link.Goals as goal
 

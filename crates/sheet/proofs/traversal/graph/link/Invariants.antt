@@ -1,4 +1,4 @@
-use Rattle.sheet.specs.Traversal.{Linked}
+use Rattle.sheet.specs.Graph.{Linked}
 use Rattle.sheet.proofs.traversal.graph.link.Given as goal
 
 abbrev pub invariant-loop-e : goal.invariant-loop-e

@@ -1,6 +1,6 @@
 use Rattle.std.proofs.Common.{◌≡◌, ℕ, ◌-◌, ◌<◌, ◌≤◌, true, length, get_or}
-use Rattle.sheet.specs.Graph.{first_of}
-use Rattle.sheet.specs.Traversal.{no_edge, sheet_of, On, saw}
+use Rattle.sheet.specs.Graph.{no_edge, first_of}
+use Rattle.sheet.specs.Traversal.{sheet_of, On, saw}
 use Rattle.sheet.proofs.traversal.reach.Reach.follow.Given as goal
 
 -- the block's edges from e on were followed, and e is one more than the number of another, or 0

@@ -16,7 +16,6 @@ spread-requires c =
     let P : ℕ → Type 0 = λ q. (q < length S.lblocks) × (in_set S r.set (at q) ≡ false) × (saw r q ≡ true) in
     let h = subst P (sym (ap (λ q. get_or q c.loop-head.head 0) c.as_slice.ensures.items)) (All-get_or P r.queue.list.items c.loop-head.head 0 l f.inner) in
     record {
-      graph = c.requires.graph;
       going = c.loop-head.invariant.0.going;
       known = h.0;
       leads = λ y a. more (subst (Leads S r.set r.from) (node_at S x h.0) (f.sound x (omega (arith, f.sized, h.0)) h.2)) h.1 a;
