@@ -18,8 +18,8 @@ use std::alloc::{AllocError, Global};
 // The memory of a traversal, for a sheet of any size.
 #[derive(Drop)]
 pub struct Traversal {
-    latest: BoundedVec<usize, 128>,
-    before: BoundedVec<usize, 512>,
+    latest: BoundedVec<Option<usize>, 128>,
+    before: BoundedVec<Option<usize>, 512>,
     reach: Reach,
 }
 

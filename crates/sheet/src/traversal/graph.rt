@@ -6,16 +6,16 @@ ghost use Rattle.sheet.specs.Graph.{Linked, Ready};
 use crate::bounded::BoundedVec;
 use crate::parts::{Block, Edge, LBlock};
 
-// The blocks, l-blocks and edges of a sheet, with the edges from each block linked. `latest` has one more than the number of each block's
-// last edge, and `before` one more than the number of the edge before each edge from the same block; 0 stands for none.
+// The blocks, l-blocks and edges of a sheet, with the edges from each block linked: `latest` has each block's last edge, and `before` the
+// edge before each edge from the same block.
 #[derive(Clone, Copy)]
 pub struct Graph<'a> {
     pub sets: usize,
     pub blocks: &'a [Block],
     pub lblocks: &'a [LBlock],
     pub edges: &'a [Edge],
-    pub latest: &'a [usize],
-    pub before: &'a [usize],
+    pub latest: &'a [Option<usize>],
+    pub before: &'a [Option<usize>],
     ghost ready: { Ready sets blocks.now lblocks.now edges.now latest.now before.now } by { Prim.hlevel props },
 }
 
@@ -23,18 +23,18 @@ pub struct Graph<'a> {
 pub(crate) fn link(
     blocks: usize,
     edges: &[Edge],
-    latest: &mut BoundedVec<usize, 128>,
-    before: &mut BoundedVec<usize, 512>,
+    latest: &mut BoundedVec<Option<usize>, 128>,
+    before: &mut BoundedVec<Option<usize>, 512>,
 )
     requires from { AllByRecursion (λ e. e.from < blocks) edges.now }
     requires blocks { blocks ≤ 128 }
     requires edges { length edges.now ≤ 512 }
     ensures { Linked edges.now blocks (length edges.now) latest.new.list.items before.new.list.items }
 {
-    latest.refill(blocks, 0);
+    latest.refill(blocks, None);
     before.clear();
-    for e in edges {
+    for (i, e) in edges.iter().enumerate() {
         before.push(latest.as_slice()[e.from]);
-        latest.set(e.from, before.len());
+        latest.set(e.from, Some(i));
     }
 }

@@ -59,11 +59,10 @@ impl Reach {
         ensures on { On (sheet_of g.now) self.old self.new }
         ensures saw { (t : ℕ) → Has g.now.edges.now (edge b t) → saw self.new (first_of g.now.blocks.now t) ≡ true }
     {
-        let mut e = g.latest[b];
-        while e > 0 {
-            let to = g.edges[e - 1].to;
-            self.visit(g, g.blocks[to].first);
-            e = g.before[e - 1];
+        let mut next = g.latest[b];
+        while let Some(e) = next {
+            self.visit(g, g.blocks[g.edges[e].to].first);
+            next = g.before[e];
         }
     }
 
