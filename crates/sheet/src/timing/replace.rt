@@ -18,13 +18,7 @@ use crate::traversal::list::is_used;
 pub(crate) fn count_used(sets: usize, lblocks: &[LBlock]) -> usize
     ensures { result ≡ used_among lblocks.now sets }
 {
-    let mut used = 0;
-    for set in 0..sets {
-        if is_used(lblocks, set) {
-            used += 1;
-        }
-    }
-    used
+    (0..sets).filter(|&set| is_used(lblocks, set)).count()
 }
 
 impl Sheet {

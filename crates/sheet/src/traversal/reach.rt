@@ -121,8 +121,7 @@ impl Reach {
     {
         self.begin(g, set, from);
         let mut head = 0;
-        while head < self.queue.len() {
-            let x = self.queue.as_slice()[head];
+        while let Some(&x) = self.queue.as_slice().get(head) {
             self.spread(g, x);
             head += 1;
         }
