@@ -1,30 +1,26 @@
 -- Conflict edges that go to the end of a list, part by part. Assumes nothing.
-use Rattle.std.proofs.Common.{◌≡◌, ℕ, suc, ◌+◌, ◌-◌, ◌<◌, ◌≤◌, Bool, true, false, cond, List, [], ◌∷◌, ◌++◌, map, length, get_or, vec_items, filter, sym, refl, ap, ◌∙◌, subst, ap₂, arith, length-append}
-use mathlib.Core.Option.{none, some}
-use Rattle.std.proofs.lemmas.List.{append-nil, append_assoc, map-append, get_or_read}
+use Rattle.std.proofs.Common.{◌≡◌, ℕ, suc, ◌+◌, ◌-◌, ◌<◌, ◌≤◌, ◌≢◌, Ok, Err, Result, Bool, true, false, cond, List, [], ◌∷◌, ◌++◌, map, length, filter, sym, refl, ap, ◌∙◌, ap₂, arith, length-append}
+use mathlib.Core.Option.{Option, none, some}
+use Rattle.std.proofs.lemmas.List.{append-nil, append_assoc, map-append}
 use Rattle.std.proofs.lemmas.List.Elements.{filter-append}
-use Rattle.std.proofs.lemmas.Bool.{le-leb, lt-leb}
+use Rattle.std.proofs.lemmas.Bool.{le-leb, lt-leb, cond-true, cond-false, eq-eqb, ne_eqb}
 use Rattle.words.specs.Lists.{up_from, below, joined}
-use Rattle.sheet.specs.Sheet.{Sheet}
-use Rattle.sheet.specs.Conflict.{Node, START, at, END, in_set, used, Conflict}
+use Rattle.words.specs.Words.{Answer, accepted, refused, refusal, too_many_conflicts}
+use Rattle.sheet.specs.Sheet.{Sheet, lblock}
+use Rattle.sheet.specs.Conflict.{Node, START, at, END, in_set, used, used_sets, Conflict}
 use Rattle.sheet.specs.ConflictList.{conflicting, set_lblocks, members, conflicts_from, conflicts_of, conflicts}
-use Rattle.sheet.specs.ReadSheet.{passing}
-use Rattle.sheet.specs.Traversal.{node, Reached, Added, edge_to, edge_at, edges_from, edges_of}
+use Rattle.sheet.specs.ReadSheet.{passing, finished}
+use Rattle.sheet.specs.Traversal.{node, Reached, Added, seen_edge, edge_to, edge_at, edges_from, edges_of}
 use Rattle.sheet.specs.declared.traversal.reach.Reach.{Reach}
-
-pub added_none : (xs added : List Conflict) → added ≡ [] → length xs ≤ 4096 → Added xs added true xs
-added_none xs added e l = (sym (append-nil xs) ∙ ap (λ ys. xs ++ ys) (sym e), l)
-
-pub added_is : (xs a b : List Conflict) (r : Bool) (ys : List Conflict) → a ≡ b → Added xs a r ys → Added xs b r ys
-added_is xs a b r ys e h = subst (λ c. Added xs c r ys) e h
+use Rattle.sheet.specs.declared.fault.SheetFault.{SheetFault}
+use Rattle.sheet.specs.declared.fault.SheetFault.TheVariants.{TooManyConflicts}
+use Rattle.sheet.specs.Faults.{sheet_refusal}
+use Rattle.sheet.proofs.Nodes.{node_at}
 
 -- one part after another
-pub added_after : (xs a b zs : List Conflict) (r : Bool) (ys : List Conflict) → zs ≡ xs ++ a → Added zs b r ys → Added xs (a ++ b) r ys
-added_after xs a b zs true ys e h = (h.0 ∙ ap (λ l. l ++ b) e ∙ append_assoc xs a b, h.1)
-added_after xs a b zs false ys e h = omega (arith, ap length e, length-append xs a, length-append a b)
-
-pub added_over : (xs a b : List Conflict) → 4096 < length (xs ++ a) → 4096 < length xs + length (a ++ b)
-added_over xs a b h = omega (arith, length-append xs a, length-append a b)
+pub added_after : (s : ℕ) (xs a b zs : List Conflict) (r : Result (Unit {0}) SheetFault) (ys : List Conflict) → zs ≡ xs ++ a → Added s zs b r ys → Added s xs (a ++ b) r ys
+added_after s xs a b zs (Ok u) ys e h = h ∙ ap (λ l. l ++ b) e ∙ append_assoc xs a b
+added_after s xs a b zs (Err f) ys e h = (omega (arith, ap length e, length-append xs a, length-append a b, h.0), h.1)
 
 -- the parts f v of the numbers v below n, in order: xs with those from v on is the whole
 module _ (f : ℕ → List Conflict) (n : ℕ) (whole : List Conflict) where
@@ -39,9 +35,10 @@ module _ (f : ℕ → List Conflict) (n : ℕ) (whole : List Conflict) where
       ap (λ zs. zs ++ joined f (up_from (v + 1) (n - (v + 1)))) h ∙ append_assoc xs (f v) (joined f (up_from (v + 1) (n - (v + 1))))
       ∙ ap (λ zs. xs ++ zs) (sym (rest_step v l)) ∙ e
 
-  pub rest_over : (xs : List Conflict) (v : ℕ) → v < n → xs ++ joined f (up_from v (n - v)) ≡ whole → 4096 < length xs + length (f v) → 4096 < length whole
-  rest_over xs v l e h =
-      omega (arith, ap length e, length-append xs (joined f (up_from v (n - v))), ap length (rest_step v l), length-append (f v) (joined f (up_from (v + 1) (n - (v + 1)))))
+  pub rest_over : (xs first rest : List Conflict) (v : ℕ) → v < n → xs ++ joined f (up_from v (n - v)) ≡ whole → whole ≡ first ++ rest
+      → 4096 < length xs + length (f v) → 4096 < length first + length rest
+  rest_over xs first rest v l e w h =
+      omega (arith, ap length e, ap length w, length-append first rest, length-append xs (joined f (up_from v (n - v))), ap length (rest_step v l), length-append (f v) (joined f (up_from (v + 1) (n - (v + 1)))))
 
   pub rest_all : (xs : List Conflict) (v : ℕ) → n ≤ v → xs ++ joined f (up_from v (n - v)) ≡ whole → xs ≡ whole
   rest_all xs v l e =
@@ -91,11 +88,15 @@ module _ (S : Sheet) where
   pub all_parts : joined (edges_of S) (below S.sets) ≡ conflicts S
   all_parts = sym (joined_kept (used S) (conflicts_of S) (below S.sets))
 
-  -- what a search that is done tells of a node's flag
-  pub flag_tells : (s : ℕ) (u : Node) (r : Reach) → Reached S s u r → (k : ℕ) (v : Node) → k ≤ n → node S k ≡ v
-      → (b : Bool) → b ≡ get_or (vec_items r.seen) k b → conflicting S s u v ≡ b
-  flag_tells s u r h k v l is b e =
-      subst (λ y. conflicting S s u y ≡ b) is (sym (h.found k l) ∙ sym (get_or_read (vec_items r.seen) k b (omega (arith, h.sized)) e false))
+  -- what a traversal that is done tells of a node's flag
+  pub seen_to : (r : Reach) → Reached S r.set r.from r → (k : ℕ) (v : Node) → k ≤ n → node S k ≡ v → seen_edge r k v ≡ edge_to S r.set r.from v
+  seen_to r h k v l is = ap (λ b. cond b (record { set = r.set; from = r.from; to = v } ∷ []) []) (h.found k l ∙ ap (conflicting S r.set r.from) is)
+
+  pub seen_at : (r : Reach) → Reached S r.set r.from r → (k : ℕ) → k < n → (lblock S k).set ≡ r.set → seen_edge r k (at k) ≡ edge_at S r.set r.from k
+  seen_at r h k l own = seen_to r h k (at k) (omega arith) (node_at S k l) ∙ sym (cond-true (in_set S r.set (at k)) _ [] (eq-eqb _ r.set own))
+
+  pub other_at : (s k : ℕ) (u : Node) → (lblock S k).set ≢ s → edge_at S s u k ≡ []
+  other_at s k u other = cond-false (in_set S s (at k)) _ [] (ne_eqb _ s other)
 
   -- the sets, one after another: xs are the conflict edges of those before s
   passes_on : (s m : ℕ) (ss : List ℕ) → m + length (conflicts_of S s) ≤ 4096 → passing S (s ∷ ss) m ≡ passing S ss (m + length (conflicts_of S s))
@@ -113,15 +114,15 @@ module _ (S : Sheet) where
       let i : suc s ≡ s + 1 = omega arith in
       ap (λ k. filter (used S) (up_from s k)) e ∙ ap (λ k. cond (used S s) (s ∷ filter (used S) (up_from k (S.sets - (s + 1)))) (filter (used S) (up_from k (S.sets - (s + 1))))) i
 
-  pub passing_more : (xs ys : List Conflict) (s : ℕ) → s < S.sets → Added xs (edges_of S s) true ys
+  pub passing_more : (xs ys : List Conflict) (s : ℕ) → s < S.sets → ys ≡ xs ++ edges_of S s → length ys ≤ 4096
       → passing S (left (s + 1)) (length ys) ≡ passing S (left s) (length xs)
-  passing_more xs ys s l h = go (used S s) h.0 ∙ ap (λ ss. passing S ss (length xs)) (sym (left_step s l))
+  passing_more xs ys s l h few = go (used S s) h ∙ ap (λ ss. passing S ss (length xs)) (sym (left_step s l))
     where
       go : (b : Bool) → ys ≡ xs ++ cond b (conflicts_of S s) []
           → passing S (left (s + 1)) (length ys) ≡ passing S (cond b (s ∷ left (s + 1)) (left (s + 1))) (length xs)
       go true e =
           let k : length ys ≡ length xs + length (conflicts_of S s) = ap length e ∙ length-append xs (conflicts_of S s) in
-          ap (passing S (left (s + 1))) k ∙ sym (passes_on s (length xs) (left (s + 1)) (omega (arith, h.1)))
+          ap (passing S (left (s + 1))) k ∙ sym (passes_on s (length xs) (left (s + 1)) (omega (arith, few)))
       go false e = ap (λ zs. passing S (left (s + 1)) (length zs)) (e ∙ append-nil xs)
 
   pub passing_over : (xs : List Conflict) (s : ℕ) → s < S.sets → length xs ≤ 4096 → 4096 < length xs + length (edges_of S s) → passing S (left s) (length xs) ≡ some s
@@ -133,3 +134,10 @@ module _ (S : Sheet) where
 
   pub passing_all : (xs : List Conflict) (s : ℕ) → S.sets ≤ s → passing S (left s) (length xs) ≡ none
   passing_all xs s l = let z : S.sets - s ≡ 0 = omega arith in ap (λ m. passing S (filter (used S) (up_from s m)) (length xs)) z
+
+  -- the answer, where a set passes the limit
+  pub many_found : (s : ℕ) (e : SheetFault) → passing S (used_sets S) 0 ≡ some s → e ≡ TooManyConflicts s → finished S ≡ refused (sheet_refusal e)
+  many_found s e p q = rw q (ap answered p)
+    where
+      answered : Option ℕ → Answer Sheet
+      answered o = elim o [ none ↦ accepted S | some s ↦ refused (refusal too_many_conflicts s) ]

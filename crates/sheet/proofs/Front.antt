@@ -7,7 +7,7 @@ use Rattle.std.proofs.lemmas.List.Sums.{sum_by-set, count_by-le-length}
 use Rattle.std.proofs.lemmas.Bool.{cases_eq, both_ways}
 use Rattle.sheet.specs.Sheet.{Sheet}
 use Rattle.sheet.specs.Conflict.{Node, at, Arrow, Leads, one, more, in_set}
-use Rattle.sheet.specs.Traversal.{node, Front, Grown, On}
+use Rattle.sheet.specs.Traversal.{node, Front, Grown, Going, On, saw}
 use Rattle.sheet.specs.ConflictList.{conflicting}
 use Rattle.sheet.proofs.Reach.{leaves, reaches, leads_sound, conflicting_complete}
 use Rattle.sheet.proofs.Nodes.{node_at}
@@ -110,6 +110,25 @@ module _ (S : Sheet) (s : ℕ) (u : Node) (seen : List Bool) (queue : List ℕ) 
   -- and there is room for it
   pub front_room : length queue < suc (length S.lblocks)
   front_room = omega (arith, f.room, count_set seen k in_flags new)
+
+-- node k is seen, and the search does not go on from it, or does
+module _ (S : Sheet) (r r' : Reach) (k : ℕ) (g : Going S r) (known : k ≤ length S.lblocks) (leads : Leads S r.set r.from (node S k)) (new : saw r k ≡ false)
+    (set_is : r'.set ≡ r.set) (from_is : r'.from ≡ r.from) (seen_is : r'.seen.list.items ≡ set r.seen.list.items k true) where
+  pub on_ends : (k < length S.lblocks → in_set S r.set (at k) ≡ false → ⊥) → r'.queue.list.items ≡ r.queue.list.items → On S r r'
+  on_ends out queue_is = record {
+    going = rw (set_is, from_is, seen_is, queue_is) (front_ends S r.set r.from r.seen.list.items r.queue.list.items k g known leads new out);
+    same_set = set_is;
+    same_from = from_is;
+    grown = rw (seen_is, queue_is) (grown_flag S r.set r.from r.seen.list.items r.queue.list.items k g known leads new);
+  }
+
+  pub on_goes_on : k < length S.lblocks → in_set S r.set (at k) ≡ false → r'.queue.list.items ≡ r.queue.list.items ++ (k ∷ []) → On S r r'
+  on_goes_on l out queue_is = record {
+    going = rw (set_is, from_is, seen_is, queue_is) (front_goes_on S r.set r.from r.seen.list.items r.queue.list.items k g known leads new l out);
+    same_set = set_is;
+    same_from = from_is;
+    grown = rw (seen_is, queue_is) (grown_more S r.set r.from r.seen.list.items r.queue.list.items k g known leads new (k ∷ []));
+  }
 
 -- a search is done when it has gone on from all that are queued
 module _ (S : Sheet) (s : ℕ) (u : Node) (seen : List Bool) (queue : List ℕ) (f : Front S s u seen queue)

@@ -6,8 +6,8 @@ use Rattle.std.proofs.lemmas.Bool.{ltb-true, ltb-false}
 use Rattle.sheet.specs.Sheet.{Sheet, Edge, lblock, WellFormed, last_block}
 use Rattle.sheet.specs.Walk.{edge}
 use Rattle.sheet.specs.Conflict.{Node, START, at, END, Arrow}
-use Rattle.sheet.specs.Graph.{Table}
-use Rattle.sheet.specs.Traversal.{node, no_edge}
+use Rattle.sheet.specs.Graph.{no_edge, Table}
+use Rattle.sheet.specs.Traversal.{node}
 use Rattle.sheet.proofs.Table.{TableArrow, from_start, along, across, to_end, table_arrow, arrow_table, ends_of}
 
 module _ (S : Sheet) where

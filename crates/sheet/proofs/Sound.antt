@@ -7,11 +7,11 @@ use Rattle.std.specs.List.{AllByRecursion}
 use Rattle.std.proofs.ByRecursion.{All-get_or, All-from_get_or}
 use Rattle.sheet.specs.declared.parts.Loop.{Loop as Header}
 use Rattle.sheet.specs.declared.parts.BackEdge.{BackEdge}
+use Rattle.sheet.specs.Graph.{no_edge}
 use Rattle.sheet.specs.Sheet.{LBlock, Edge, Fact, Loop, WellFormed}
 use Rattle.sheet.specs.SheetWords.{Distinct, LBlockFits, EdgeFits, FactFits, LoopFits}
 use Rattle.sheet.specs.BlockTable.{first_of, size_of, Table}
 use Rattle.sheet.specs.Drafts.{Items, sheet_of, loop_of, loops_from}
-use Rattle.sheet.specs.Traversal.{no_edge}
 use Rattle.sheet.specs.Kept.{Kept}
 use Rattle.sheet.specs.Sound.{Sound}
 use Rattle.sheet.proofs.ReadSheet.{parts_well_formed}

@@ -1,37 +1,14 @@
--- What a traversal of the fetch graph keeps: links between edges, flags of the nodes that it saw, and a queue of those to go on from. Assumes nothing.
-use Rattle.std.specs.Prelude.{◌≡◌, ℕ, suc, ◌+◌, ◌-◌, ◌<◌, ◌≤◌, Bool, true, false, cond, not, List, [], ◌∷◌, ◌++◌, length, get_or, vec_items, vec_capacity, count_by, ◌≢◌, nat_lt, slice_index, slice_index_or}
+-- What a traversal of the fetch graph keeps: flags of the nodes that it saw, and a queue of those to go on from. Assumes nothing.
+use Rattle.std.specs.Prelude.{◌≡◌, ℕ, suc, ◌+◌, ◌<◌, ◌≤◌, Bool, true, false, cond, not, List, [], ◌∷◌, ◌++◌, length, Ok, Err, Result, count_by, nat_lt, slice_index, slice_index_or}
 use Rattle.std.specs.List.{ContainsAt as Has, AllByRecursion}
 use Rattle.sheet.specs.declared.traversal.graph.Graph.{Graph}
 use Rattle.sheet.specs.declared.traversal.reach.Reach.{Reach}
-use Rattle.sheet.specs.Sheet.{Sheet, LBlock, Edge, WellFormed}
+use Rattle.sheet.specs.declared.fault.SheetFault.{SheetFault}
+use Rattle.sheet.specs.declared.fault.SheetFault.TheVariants.{TooManyConflicts}
+use Rattle.sheet.specs.Sheet.{Sheet}
 use Rattle.sheet.specs.Conflict.{Node, START, at, END, Leads, in_set, used, Conflict}
 use Rattle.sheet.specs.ConflictList.{conflicting, conflicts_from, conflicts_of}
-use Rattle.sheet.specs.Graph.{Block, graph_of, first_of, size_of, Table}
-
-abbrev pub no_edge : Edge
-no_edge = record { from = 0; to = 0 }
-
--- edge h - 1 is the last from block b among the first k edges; where h is 0, there is none
-pub record Latest (es : List Edge) (b k h : ℕ) : Type 0 where
-  pub early : h ≤ k
-  pub its_own : 0 < h → (get_or es (h - 1) no_edge).from ≡ b
-  pub none_after : (j : ℕ) → h ≤ j → j < k → (get_or es j no_edge).from ≢ b
-
--- the first k edges are linked: `latest` has each block's last edge, and `before` the edge before each edge from the same block
-pub record Linked (es : List Edge) (blocks k : ℕ) (latest before : List ℕ) : Type 0 where
-  pub each_block : length latest ≡ blocks
-  pub each_edge : length before ≡ k
-  pub last_edges : (b : ℕ) → b < blocks → Latest es b k (slice_index latest b)
-  pub earlier : (e : ℕ) → e < k → Latest es (get_or es e no_edge).from e (slice_index before e)
-
--- a graph that a traversal can go over
-pub record Ready (sets : ℕ) (bs : List Block) (ls : List LBlock) (es : List Edge) (latest before : List ℕ) : Type 0 where
-  pub formed : WellFormed (graph_of sets (length bs) ls es)
-  pub table : Table (graph_of sets (length bs) ls es) (first_of bs) (size_of bs)
-  pub few_blocks : length bs ≤ 128
-  pub few_lblocks : length ls ≤ 512
-  pub few_edges : length es ≤ 512
-  pub linked : Linked es (length bs) (length es) latest before
+use Rattle.sheet.specs.Graph.{graph_of}
 
 -- the node with a number: the l-blocks have theirs, and END the one after
 unfoldable pub node : Sheet → ℕ → Node
@@ -51,41 +28,31 @@ pub record Grown (seen seen' : List Bool) (queue queue' : List ℕ) : Type 0 whe
   pub longer : length queue ≤ length queue'
   pub queue_kept : (i : ℕ) → i < length queue → slice_index queue' i ≡ slice_index queue i
 
--- the sheet of a graph, and that a traversal can go over it
+-- the sheet of a graph
 abbrev pub sheet_of : Graph → Sheet
 sheet_of g = graph_of g.sets (length g.blocks.now) g.lblocks.now g.edges.now
 
-abbrev pub Searchable : Graph → Type 0
-Searchable g = Ready g.sets g.blocks.now g.lblocks.now g.edges.now g.latest.now g.before.now
-
--- memory for the flags and the queue of 512 l-blocks and END
-pub record Reserved (r : Reach) : Type 0 where
-  pub flags : 513 ≤ vec_capacity r.seen
-  pub places : 513 ≤ vec_capacity r.queue
-
 -- a traversal under way
-pub record Going (S : Sheet) (r : Reach) : Type 0 where
-  pub front : Front S r.set r.from (vec_items r.seen) (vec_items r.queue)
-  pub reserved : Reserved r
+abbrev pub Going : Sheet → Reach → Type 0
+Going S r = Front S r.set r.from r.seen.list.items r.queue.list.items
 
 -- it went on, by as much as it grew
 pub record On (S : Sheet) (r r' : Reach) : Type 0 where
   pub going : Going S r'
   pub same_set : r'.set ≡ r.set
   pub same_from : r'.from ≡ r.from
-  pub grown : Grown (vec_items r.seen) (vec_items r'.seen) (vec_items r.queue) (vec_items r'.queue)
+  pub grown : Grown r.seen.list.items r'.seen.list.items r.queue.list.items r'.queue.list.items
 
 -- whether the traversal saw node k
 abbrev pub saw : Reach → ℕ → Bool
-saw r k = slice_index_or (vec_items r.seen) k false
+saw r k = slice_index_or r.seen.list.items k false
 
 -- a traversal that is done: it saw the nodes that a path leads to from u with no l-block of set s strictly inside
 pub record Reached (S : Sheet) (s : ℕ) (u : Node) (r : Reach) : Type 0 where
   pub set_is : r.set ≡ s
   pub from_is : r.from ≡ u
-  pub sized : length (vec_items r.seen) ≡ suc (length S.lblocks)
+  pub sized : length r.seen.list.items ≡ suc (length S.lblocks)
   pub found : (k : ℕ) → k ≤ length S.lblocks → saw r k ≡ conflicting S s u (node S k)
-  pub reserved : Reserved r
 
 -- where a traversal can start
 abbrev pub Source : Sheet → Node → Type 0
@@ -93,10 +60,14 @@ Source S START = Unit {0}
 Source S (at v) = v < length S.lblocks
 Source S END = Unit {0}
 
--- Conflict edges go to the end of a list while there are at most 4,096; where there would be more, false is answered.
-abbrev pub Added : List Conflict → List Conflict → Bool → List Conflict → Type 0
-Added xs added true ys = (ys ≡ xs ++ added) × (length ys ≤ 4096)
-Added xs added false ys = 4096 < length xs + length added
+-- Conflict edges of a set go to the end of a list while there are at most 4,096; where there would be more, the set is answered.
+abbrev pub Added : ℕ → List Conflict → List Conflict → Result (Unit {0}) SheetFault → List Conflict → Type 0
+Added s xs added (Ok u) ys = ys ≡ xs ++ added
+Added s xs added (Err e) ys = (4096 < length xs + length added) × (e ≡ TooManyConflicts s)
+
+-- the conflict edge to a node, by the flag of its number
+abbrev pub seen_edge : Reach → ℕ → Node → List Conflict
+seen_edge r k v = cond (saw r k) (record { set = r.set; from = r.from; to = v } ∷ []) []
 
 -- the conflict edge of a set from one node to another, if there is one; that to an l-block, if it is of the set
 abbrev pub edge_to : Sheet → ℕ → Node → Node → List Conflict

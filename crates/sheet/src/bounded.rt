@@ -1,5 +1,5 @@
 // A list of at most N items, in memory that is reserved once.
-ghost use Rattle.std.specs.Prelude.{◌≡◌, ◌<◌, ◌≤◌, [], ◌∷◌, ◌++◌, length, replicate, IfOk, vec_len, vec_capacity, slice_set};
+ghost use Rattle.std.specs.Prelude.{◌≡◌, ◌<◌, ◌≤◌, [], ◌∷◌, ◌++◌, length, replicate, IfOk, vec_len, vec_capacity, nat_eq, slice_set};
 
 use std::alloc::{AllocError, Global};
 
@@ -24,6 +24,13 @@ impl<T, const N: usize> BoundedVec<T, N> {
         ensures fits { result ≤ N }
     {
         self.list.len()
+    }
+
+    // Whether no other item has room.
+    pub(crate) fn is_full(&self) -> bool
+        ensures { result ≡ nat_eq (length self.now.list.items) N }
+    {
+        self.len() == N
     }
 
     pub(crate) fn as_slice(&self) -> &[T]

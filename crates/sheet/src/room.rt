@@ -1,6 +1,5 @@
 // Memory for a sheet and for reading the next one.
-ghost use Rattle.std.specs.Prelude.{◌≤◌, vec_capacity};
-
+use crate::bounded::BoundedVec;
 use crate::draft::Draft;
 use crate::parts::Conflict;
 use crate::timing::Sheet;
@@ -11,9 +10,8 @@ use crate::traversal::Traversal;
 pub struct SheetRoom {
     sheet: Sheet,
     draft: Draft,
-    conflicts: Vec<Conflict>,
+    conflicts: BoundedVec<Conflict, 4096>,
     traversal: Traversal,
-    ghost space: { 4096 ≤ vec_capacity conflicts },
 }
 
 mod read;

@@ -1,29 +1,28 @@
 // A timing sheet that was read.
-ghost use Rattle.std.specs.Prelude.{◌≡◌, ◌≤◌, length, vec_len, vec_capacity};
+ghost use Rattle.std.specs.Prelude.{◌≡◌, ◌≤◌, length, vec_len};
 ghost use Rattle.sheet.specs.Conflict.{used_sets};
 ghost use Rattle.sheet.specs.ConflictList.{conflicts as conflict_list};
 ghost use Rattle.sheet.specs.Drafts.{sheet_of};
 ghost use Rattle.sheet.specs.Tried.{items_of};
 ghost use Rattle.sheet.specs.Kept.{Kept};
 
+use crate::bounded::BoundedVec;
 use crate::draft::Draft;
 use crate::parts::Conflict;
 
 #[derive(Drop)]
 pub struct Sheet {
     draft: Draft,
-    conflicts: Vec<Conflict>,
+    conflicts: BoundedVec<Conflict, 4096>,
     used: usize,
-    ghost room: { 4096 ≤ vec_capacity conflicts },
     ghost few_blocks: { vec_len draft.blocks ≤ 128 },
     ghost few_lblocks: { vec_len draft.lblocks ≤ 512 },
     ghost few_edges: { vec_len draft.edges ≤ 512 },
     ghost few_loops: { vec_len draft.loops ≤ 32 },
     ghost few_facts: { vec_len draft.facts ≤ 32 },
-    ghost few_conflicts: { vec_len conflicts ≤ 4096 },
     ghost few_used: { used ≤ 64 },
     ghost counted: { used ≡ length (used_sets (sheet_of (items_of draft))) },
-    ghost listed: { conflicts.items ≡ conflict_list (sheet_of (items_of draft)) },
+    ghost listed: { conflicts.list.items ≡ conflict_list (sheet_of (items_of draft)) },
     ghost kept: { ∥ Kept (items_of draft) ∥₁ },
 }
 

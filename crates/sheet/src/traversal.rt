@@ -3,38 +3,31 @@ mod graph;
 pub mod list;
 mod reach;
 
-ghost use Rattle.std.specs.Prelude.{◌≤◌, length, vec_capacity};
+ghost use Rattle.std.specs.Prelude.{◌≤◌, length};
 ghost use Rattle.sheet.specs.Sheet.{WellFormed};
-ghost use Rattle.sheet.specs.Graph.{graph_of, first_of, size_of, Table, Listed};
+ghost use Rattle.sheet.specs.Graph.{graph_of, first_of, size_of, Table};
+ghost use Rattle.sheet.specs.Reads.{Found};
 
+use crate::bounded::BoundedVec;
+use crate::fault::SheetFault;
 use crate::parts::{Block, Conflict, Edge, LBlock};
 use crate::traversal::graph::{Graph, link};
 use crate::traversal::reach::Reach;
 use std::alloc::{AllocError, Global};
 
-// A sheet has at most so many blocks.
-const MOST_BLOCKS: usize = 128;
-
-// And so many edges.
-const MOST_EDGES: usize = 512;
-
 // The memory of a traversal, for a sheet of any size.
 #[derive(Drop)]
 pub struct Traversal {
-    latest: Vec<usize>,
-    before: Vec<usize>,
+    latest: BoundedVec<Option<usize>, 128>,
+    before: BoundedVec<Option<usize>, 512>,
     reach: Reach,
-    ghost blocks: { 128 ≤ vec_capacity latest },
-    ghost edges: { 512 ≤ vec_capacity before },
-    ghost flags: { 513 ≤ vec_capacity reach.seen },
-    ghost places: { 513 ≤ vec_capacity reach.queue },
 }
 
 impl Traversal {
     pub(crate) fn reserve(heap: Global) -> Result<Traversal, AllocError> {
         Ok(Traversal {
-            latest: Vec::with_capacity(heap, MOST_BLOCKS)?,
-            before: Vec::with_capacity(heap, MOST_EDGES)?,
+            latest: BoundedVec::reserve(heap)?,
+            before: BoundedVec::reserve(heap)?,
             reach: Reach::reserve(heap)?,
         })
     }
@@ -46,16 +39,14 @@ impl Traversal {
         blocks: &'a [Block],
         lblocks: &'a [LBlock],
         edges: &'a [Edge],
-        out: &mut Vec<Conflict>,
-    ) -> Result<(), usize>
+        out: &mut BoundedVec<Conflict, 4096>,
+    ) -> Result<(), SheetFault>
         requires formed { WellFormed (graph_of sets (length blocks.now) lblocks.now edges.now) }
         requires table { Table (graph_of sets (length blocks.now) lblocks.now edges.now) (first_of blocks.now) (size_of blocks.now) }
         requires blocks { length blocks.now ≤ 128 }
         requires lblocks { length lblocks.now ≤ 512 }
         requires edges { length edges.now ≤ 512 }
-        requires room { 4096 ≤ vec_capacity out.old }
-        ensures listed { Listed (graph_of sets (length blocks.now) lblocks.now edges.now) result out.new.items }
-        ensures room { 4096 ≤ vec_capacity out.new }
+        ensures { Found (graph_of sets (length blocks.now) lblocks.now edges.now) result out.new.list.items }
     {
         link(blocks.len(), edges, &mut self.latest, &mut self.before);
         let g = Graph {

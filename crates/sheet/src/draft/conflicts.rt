@@ -1,9 +1,9 @@
 // The conflict edges of what was read.
-ghost use Rattle.std.specs.Prelude.{◌≤◌, vec_capacity};
 ghost use Rattle.sheet.specs.Drafts.{sheet_of};
 ghost use Rattle.sheet.specs.Reads.{Readable, Found};
 ghost use Rattle.sheet.specs.Tried.{items_of};
 
+use crate::bounded::BoundedVec;
 use crate::draft::Draft;
 use crate::fault::SheetFault;
 use crate::parts::Conflict;
@@ -14,16 +14,11 @@ impl Draft {
     pub(crate) fn find_conflicts(
         &self,
         traversal: &mut Traversal,
-        out: &mut Vec<Conflict>,
+        out: &mut BoundedVec<Conflict, 4096>,
     ) -> Result<(), SheetFault>
-        requires ready { Readable (items_of self.now) }
-        requires room { 4096 ≤ vec_capacity out.old }
-        ensures found { Found (sheet_of (items_of self.now)) result out.new.items }
-        ensures room { 4096 ≤ vec_capacity out.new }
+        requires { Readable (items_of self.now) }
+        ensures { Found (sheet_of (items_of self.now)) result out.new.list.items }
     {
-        match traversal.find(self.sets, &self.blocks, &self.lblocks, &self.edges, out) {
-            Ok(()) => Ok(()),
-            Err(set) => Err(SheetFault::TooManyConflicts(set)),
-        }
+        traversal.find(self.sets, &self.blocks, &self.lblocks, &self.edges, out)
     }
 }

@@ -3,6 +3,7 @@ ghost use Rattle.std.specs.Prelude.{◌≡◌, IfOk};
 ghost use Rattle.sheet.specs.Reads.{Reading, ReaderLaws};
 ghost use Rattle.sheet.specs.View.{view, blank as blank_sheet};
 
+use crate::bounded::BoundedVec;
 use crate::draft::Draft;
 use crate::fault::SheetFault;
 use crate::room::SheetRoom;
@@ -18,7 +19,7 @@ impl SheetRoom {
         Ok(SheetRoom {
             sheet: Sheet::blank(heap)?,
             draft: Draft::reserve(heap)?,
-            conflicts: Vec::with_capacity(heap, 4096)?,
+            conflicts: BoundedVec::reserve(heap)?,
             traversal: Traversal::reserve(heap)?,
         })
     }

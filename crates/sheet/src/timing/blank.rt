@@ -1,8 +1,9 @@
 // The blank sheet.
-ghost use Rattle.std.specs.Prelude.{◌≡◌, ◌≤◌, IfOk, vec_capacity};
+ghost use Rattle.std.specs.Prelude.{◌≡◌, IfOk};
 ghost use Rattle.sheet.specs.Tried.{items_of};
 ghost use Rattle.sheet.specs.View.{view, blank as blank_sheet, blank_items, blank_conflicts};
 
+use crate::bounded::BoundedVec;
 use crate::draft::Draft;
 use crate::parts::{Block, Conflict, LBlock, Node};
 use crate::timing::Sheet;
@@ -29,16 +30,16 @@ fn blank_draft(heap: Global) -> Result<Draft, AllocError>
 }
 
 // Its conflict edges, in memory for any sheet's.
-fn lone_conflicts(heap: Global) -> Result<Vec<Conflict>, AllocError>
-    ensures { IfOk result (λ v. (v.items ≡ blank_conflicts) × (4096 ≤ vec_capacity v)) }
+fn lone_conflicts(heap: Global) -> Result<BoundedVec<Conflict, 4096>, AllocError>
+    ensures { IfOk result (λ v. v.list.items ≡ blank_conflicts) }
 {
-    let mut conflicts = Vec::with_capacity(heap, 4096)?;
-    conflicts.push_reserved(Conflict {
+    let mut conflicts = BoundedVec::reserve(heap)?;
+    conflicts.push(Conflict {
         set: 0,
         from: Node::Start,
         to: Node::At(0),
     });
-    conflicts.push_reserved(Conflict {
+    conflicts.push(Conflict {
         set: 0,
         from: Node::At(0),
         to: Node::End,

@@ -1,5 +1,5 @@
 // Taking over what was read.
-ghost use Rattle.std.specs.Prelude.{◌≡◌, ◌≤◌, length, vec_capacity};
+ghost use Rattle.std.specs.Prelude.{◌≡◌, length};
 ghost use Rattle.words.specs.Lists.{below};
 ghost use Rattle.sheet.specs.Conflict.{used_sets};
 ghost use Rattle.sheet.specs.ConflictList.{conflicts as conflict_list};
@@ -8,6 +8,7 @@ ghost use Rattle.sheet.specs.Kept.{Kept, used_among};
 ghost use Rattle.sheet.specs.Tried.{items_of};
 ghost use Rattle.sheet.specs.View.{items as items_in};
 
+use crate::bounded::BoundedVec;
 use crate::draft::Draft;
 use crate::parts::{Conflict, LBlock};
 use crate::timing::Sheet;
@@ -17,23 +18,15 @@ use crate::traversal::list::is_used;
 pub(crate) fn count_used(sets: usize, lblocks: &[LBlock]) -> usize
     ensures { result ≡ used_among lblocks.now sets }
 {
-    let mut used = 0;
-    for set in 0..sets {
-        if is_used(lblocks, set) {
-            used += 1;
-        }
-    }
-    used
+    (0..sets).filter(|&set| is_used(lblocks, set)).count()
 }
 
 impl Sheet {
     // The sheet becomes the one that was read. Its old memory is handed back for the next.
-    pub(crate) fn replace(&mut self, draft: &mut Draft, conflicts: &mut Vec<Conflict>)
+    pub(crate) fn replace(&mut self, draft: &mut Draft, conflicts: &mut BoundedVec<Conflict, 4096>)
         requires fits { Kept (items_of draft.old) }
-        requires listed { conflicts.old.items ≡ conflict_list (sheet_of (items_of draft.old)) }
-        requires room { 4096 ≤ vec_capacity conflicts.old }
-        ensures taken { items_in self.new ≡ items_of draft.old }
-        ensures room { 4096 ≤ vec_capacity conflicts.new }
+        requires listed { conflicts.old.list.items ≡ conflict_list (sheet_of (items_of draft.old)) }
+        ensures { items_in self.new ≡ items_of draft.old }
     {
         let used = count_used(draft.sets, &draft.lblocks);
         std::mem::swap(&mut self.draft, draft);

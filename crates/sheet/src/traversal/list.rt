@@ -1,166 +1,98 @@
-// Lists what traversals find. Each function here that lists answers true, and where there would be more than 4,096 conflict edges, false.
-ghost use Rattle.std.specs.Prelude.{◌≡◌, ◌<◌, ◌≤◌, [], ◌∷◌, length, vec_len, vec_capacity, nat_eq};
+// Lists what traversals find. Where there would be more than 4,096 conflict edges, the set is answered with which they pass them.
+ghost use Rattle.std.specs.Prelude.{◌≡◌, ◌<◌, [], ◌∷◌, length, nat_eq};
 ghost use Rattle.words.specs.Lists.{any};
-ghost use Rattle.sheet.specs.Conflict.{END};
 ghost use Rattle.sheet.specs.ConflictList.{conflicts_from, conflicts_of};
-ghost use Rattle.sheet.specs.Graph.{Listed};
-ghost use Rattle.sheet.specs.Traversal.{Searchable, sheet_of, Reserved, Source, Reached, Added, edge_to, edge_at, edges_from, edges_of};
+ghost use Rattle.sheet.specs.Reads.{Found};
+ghost use Rattle.sheet.specs.Traversal.{sheet_of, Source, Reached, Added, seen_edge};
 
+use crate::bounded::BoundedVec;
+use crate::fault::SheetFault;
 use crate::parts::{Conflict, LBlock, Node};
 use crate::traversal::graph::Graph;
 use crate::traversal::reach::Reach;
 
-// A sheet has at most so many conflict edges.
-const MOST_CONFLICTS: usize = 4096;
-
 impl Reach {
-    // Lists the conflict edge to l-block v.
-    fn list_at(&self, g: &Graph, v: usize, out: &mut Vec<Conflict>) -> bool
-        requires graph { Searchable g.now }
-        requires reached { Reached (sheet_of g.now) self.now.set self.now.from self.now }
-        requires known { v < length g.now.lblocks.now }
-        requires room { 4096 ≤ vec_capacity out.old }
-        requires few { vec_len out.old ≤ 4096 }
-        ensures added { Added out.old.items (edge_at (sheet_of g.now) self.now.set self.now.from v) result out.new.items }
-        ensures room { 4096 ≤ vec_capacity out.new }
+    // Lists the conflict edge to a node, which has number k, if the traversal saw it.
+    fn list_to(
+        &self,
+        k: usize,
+        to: Node,
+        out: &mut BoundedVec<Conflict, 4096>,
+    ) -> Result<(), SheetFault>
+        requires { k < length self.now.seen.list.items }
+        ensures { Added self.now.set out.old.list.items (seen_edge self.now k to) result out.new.list.items }
     {
-        if g.lblocks[v].set != self.set {
-            return true;
+        if self.seen.as_slice()[k] {
+            put(
+                out,
+                Conflict {
+                    set: self.set,
+                    from: self.from,
+                    to,
+                },
+            )?;
         }
-        if !self.seen[v] {
-            return true;
-        }
-        put(
-            out,
-            Conflict {
-                set: self.set,
-                from: self.from,
-                to: Node::At(v),
-            },
-        )
-    }
-
-    // Lists the conflict edge to END.
-    fn list_end(&self, g: &Graph, out: &mut Vec<Conflict>) -> bool
-        requires graph { Searchable g.now }
-        requires reached { Reached (sheet_of g.now) self.now.set self.now.from self.now }
-        requires room { 4096 ≤ vec_capacity out.old }
-        requires few { vec_len out.old ≤ 4096 }
-        ensures added { Added out.old.items (edge_to (sheet_of g.now) self.now.set self.now.from END) result out.new.items }
-        ensures room { 4096 ≤ vec_capacity out.new }
-    {
-        if !self.seen[g.lblocks.len()] {
-            return true;
-        }
-        put(
-            out,
-            Conflict {
-                set: self.set,
-                from: self.from,
-                to: Node::End,
-            },
-        )
+        Ok(())
     }
 
     // Lists the conflict edges from `from`.
-    fn list(&self, g: &Graph, out: &mut Vec<Conflict>) -> bool
-        requires graph { Searchable g.now }
+    fn list(&self, g: &Graph, out: &mut BoundedVec<Conflict, 4096>) -> Result<(), SheetFault>
         requires reached { Reached (sheet_of g.now) self.now.set self.now.from self.now }
-        requires room { 4096 ≤ vec_capacity out.old }
-        requires few { vec_len out.old ≤ 4096 }
-        ensures added { Added out.old.items (conflicts_from (sheet_of g.now) self.now.set self.now.from) result out.new.items }
-        ensures room { 4096 ≤ vec_capacity out.new }
+        ensures { Added self.now.set out.old.list.items (conflicts_from (sheet_of g.now) self.now.set self.now.from) result out.new.list.items }
     {
-        for v in 0..g.lblocks.len() {
-            if !self.list_at(g, v, out) {
-                return false;
+        for (v, b) in g.lblocks.iter().enumerate() {
+            if b.set == self.set {
+                self.list_to(v, Node::At(v), out)?;
             }
         }
-        self.list_end(g, out)
+        self.list_to(g.lblocks.len(), Node::End, out)
     }
 
     // Lists the conflict edges of a set from a node.
-    fn list_from(&mut self, g: &Graph, set: usize, from: Node, out: &mut Vec<Conflict>) -> bool
-        requires graph { Searchable g.now }
-        requires reserved { Reserved self.old }
+    fn list_from(
+        &mut self,
+        g: &Graph,
+        set: usize,
+        from: Node,
+        out: &mut BoundedVec<Conflict, 4096>,
+    ) -> Result<(), SheetFault>
         requires source { Source (sheet_of g.now) from }
-        requires room { 4096 ≤ vec_capacity out.old }
-        requires few { vec_len out.old ≤ 4096 }
-        ensures added { Added out.old.items (conflicts_from (sheet_of g.now) set from) result out.new.items }
-        ensures room { 4096 ≤ vec_capacity out.new }
-        ensures reserved { Reserved self.new }
+        ensures { Added set out.old.list.items (conflicts_from (sheet_of g.now) set from) result out.new.list.items }
     {
         self.run(g, set, from);
         self.list(g, out)
     }
 
-    // Lists the conflict edges of a set from l-block v, if it is of the set.
-    fn list_lblock(&mut self, g: &Graph, set: usize, v: usize, out: &mut Vec<Conflict>) -> bool
-        requires graph { Searchable g.now }
-        requires reserved { Reserved self.old }
-        requires known { v < length g.now.lblocks.now }
-        requires room { 4096 ≤ vec_capacity out.old }
-        requires few { vec_len out.old ≤ 4096 }
-        ensures added { Added out.old.items (edges_from (sheet_of g.now) set v) result out.new.items }
-        ensures room { 4096 ≤ vec_capacity out.new }
-        ensures reserved { Reserved self.new }
+    // Lists the conflict edges of a set, from START and from its l-blocks.
+    fn list_set(
+        &mut self,
+        g: &Graph,
+        set: usize,
+        out: &mut BoundedVec<Conflict, 4096>,
+    ) -> Result<(), SheetFault>
+        ensures { Added set out.old.list.items (conflicts_of (sheet_of g.now) set) result out.new.list.items }
     {
-        if g.lblocks[v].set != set {
-            return true;
-        }
-        self.list_from(g, set, Node::At(v), out)
-    }
-
-    // Lists the conflict edges of a set.
-    fn list_set(&mut self, g: &Graph, set: usize, out: &mut Vec<Conflict>) -> bool
-        requires graph { Searchable g.now }
-        requires reserved { Reserved self.old }
-        requires room { 4096 ≤ vec_capacity out.old }
-        requires few { vec_len out.old ≤ 4096 }
-        ensures added { Added out.old.items (conflicts_of (sheet_of g.now) set) result out.new.items }
-        ensures room { 4096 ≤ vec_capacity out.new }
-        ensures reserved { Reserved self.new }
-    {
-        if !self.list_from(g, set, Node::Start, out) {
-            return false;
-        }
-        for v in 0..g.lblocks.len() {
-            if !self.list_lblock(g, set, v, out) {
-                return false;
+        self.list_from(g, set, Node::Start, out)?;
+        for (v, b) in g.lblocks.iter().enumerate() {
+            if b.set == set {
+                self.list_from(g, set, Node::At(v), out)?;
             }
         }
-        true
+        Ok(())
     }
 
-    // Lists the conflict edges of a set, if it is used.
-    fn list_used(&mut self, g: &Graph, set: usize, out: &mut Vec<Conflict>) -> bool
-        requires graph { Searchable g.now }
-        requires reserved { Reserved self.old }
-        requires room { 4096 ≤ vec_capacity out.old }
-        requires few { vec_len out.old ≤ 4096 }
-        ensures added { Added out.old.items (edges_of (sheet_of g.now) set) result out.new.items }
-        ensures room { 4096 ≤ vec_capacity out.new }
-        ensures reserved { Reserved self.new }
-    {
-        if !is_used(g.lblocks, set) {
-            return true;
-        }
-        self.list_set(g, set, out)
-    }
-
-    // Lists the conflict edges of all sets, or says with which there are too many.
-    pub(crate) fn list_all(&mut self, g: &Graph, out: &mut Vec<Conflict>) -> Result<(), usize>
-        requires graph { Searchable g.now }
-        requires reserved { Reserved self.old }
-        requires room { 4096 ≤ vec_capacity out.old }
-        ensures listed { Listed (sheet_of g.now) result out.new.items }
-        ensures room { 4096 ≤ vec_capacity out.new }
-        ensures reserved { Reserved self.new }
+    // Lists the conflict edges of all used sets.
+    pub(crate) fn list_all(
+        &mut self,
+        g: &Graph,
+        out: &mut BoundedVec<Conflict, 4096>,
+    ) -> Result<(), SheetFault>
+        ensures { Found (sheet_of g.now) result out.new.list.items }
     {
         out.clear();
         for set in 0..g.sets {
-            if !self.list_used(g, set, out) {
-                return Err(set);
+            if is_used(g.lblocks, set) {
+                self.list_set(g, set, out)?;
             }
         }
         Ok(())
@@ -171,24 +103,16 @@ impl Reach {
 pub(crate) fn is_used(lblocks: &[LBlock], set: usize) -> bool
     ensures { result ≡ any (λ b. nat_eq b.set set) lblocks.now }
 {
-    for b in lblocks {
-        if b.set == set {
-            return true;
-        }
-    }
-    false
+    lblocks.iter().any(|b| b.set == set)
 }
 
 // One conflict edge more, unless there are as many as may be.
-fn put(out: &mut Vec<Conflict>, c: Conflict) -> bool
-    requires room { 4096 ≤ vec_capacity out.old }
-    requires few { vec_len out.old ≤ 4096 }
-    ensures added { Added out.old.items (c ∷ []) result out.new.items }
-    ensures room { 4096 ≤ vec_capacity out.new }
+fn put(out: &mut BoundedVec<Conflict, 4096>, c: Conflict) -> Result<(), SheetFault>
+    ensures { Added c.set out.old.list.items (c ∷ []) result out.new.list.items }
 {
-    if out.len() >= MOST_CONFLICTS {
-        return false;
+    if out.is_full() {
+        return Err(SheetFault::TooManyConflicts(c.set));
     }
-    out.push_reserved(c);
-    true
+    out.push(c);
+    Ok(())
 }

@@ -1,16 +1,14 @@
-ghost use Rattle.std.specs.Prelude.{◌≡◌, ℕ, ◌+◌, ◌<◌, ◌≤◌, true, false, length, IfOk};
+ghost use Rattle.std.specs.Prelude.{◌≡◌, ℕ, ◌+◌, ◌<◌, ◌≤◌, true, length};
 ghost use Rattle.std.specs.List.{ContainsAt as Has};
 ghost use Rattle.sheet.specs.Walk.{edge};
 ghost use Rattle.sheet.specs.Conflict.{at, Arrow, Leads};
 ghost use Rattle.sheet.specs.Graph.{first_of};
-ghost use Rattle.sheet.specs.Traversal.{Searchable, sheet_of, node, Reserved, Going, On, saw, Source, Reached};
+ghost use Rattle.sheet.specs.Traversal.{sheet_of, node, Going, On, saw, Source, Reached};
 
+use crate::bounded::BoundedVec;
 use crate::parts::Node;
-use crate::traversal::graph::{Graph, refill};
+use crate::traversal::graph::Graph;
 use std::alloc::{AllocError, Global};
-
-// A sheet has at most so many l-blocks.
-const MOST_LBLOCKS: usize = 512;
 
 // A traversal of the fetch graph from one node, that does not go on after an l-block of the set. L-blocks have their numbers, and END the one
 // after. It flags the nodes that it saw, and those that it goes on from it queues.
@@ -18,64 +16,58 @@ const MOST_LBLOCKS: usize = 512;
 pub struct Reach {
     pub set: usize,
     pub from: Node,
-    pub seen: Vec<bool>,
-    pub queue: Vec<usize>,
+    pub seen: BoundedVec<bool, 513>,
+    pub queue: BoundedVec<usize, 513>,
 }
 
 impl Reach {
-    pub(crate) fn reserve(heap: Global) -> Result<Reach, AllocError>
-        ensures { IfOk result Reserved }
-    {
+    pub(crate) fn reserve(heap: Global) -> Result<Reach, AllocError> {
         Ok(Reach {
             set: 0,
             from: Node::Start,
-            seen: Vec::with_capacity(heap, MOST_LBLOCKS + 1)?,
-            queue: Vec::with_capacity(heap, MOST_LBLOCKS + 1)?,
+            seen: BoundedVec::reserve(heap)?,
+            queue: BoundedVec::reserve(heap)?,
         })
     }
 
     // Sees a node.
     fn visit(&mut self, g: &Graph, k: usize)
-        requires graph { Searchable g.now }
         requires going { Going (sheet_of g.now) self.old }
         requires known { k ≤ length g.now.lblocks.now }
         requires leads { Leads (sheet_of g.now) self.old.set self.old.from (node (sheet_of g.now) k) }
         ensures on { On (sheet_of g.now) self.old self.new }
         ensures saw { saw self.new k ≡ true }
     {
-        if self.seen[k] {
+        if self.seen.as_slice()[k] {
             return;
         }
-        self.seen[k] = true;
+        self.seen.set(k, true);
         if k == g.lblocks.len() {
             return;
         }
         if g.lblocks[k].set == self.set {
             return;
         }
-        self.queue.push_reserved(k);
+        self.queue.push(k);
     }
 
     // Sees the first l-block of each block that an edge leads to from block b.
     fn follow(&mut self, g: &Graph, b: usize)
-        requires graph { Searchable g.now }
         requires going { Going (sheet_of g.now) self.old }
         requires known { b < length g.now.blocks.now }
         requires leads { (t : ℕ) → Has g.now.edges.now (edge b t) → Leads (sheet_of g.now) self.old.set self.old.from (at (first_of g.now.blocks.now t)) }
         ensures on { On (sheet_of g.now) self.old self.new }
         ensures saw { (t : ℕ) → Has g.now.edges.now (edge b t) → saw self.new (first_of g.now.blocks.now t) ≡ true }
     {
-        let mut e = g.latest[b];
-        while e > 0 {
-            let to = g.edges[e - 1].to;
-            self.visit(g, g.blocks[to].first);
-            e = g.before[e - 1];
+        let mut next = g.latest[b];
+        while let Some(e) = next {
+            self.visit(g, g.blocks[g.edges[e].to].first);
+            next = g.before[e];
         }
     }
 
     // Sees each node that an arrow leads to from l-block x.
     fn spread(&mut self, g: &Graph, x: usize)
-        requires graph { Searchable g.now }
         requires going { Going (sheet_of g.now) self.old }
         requires known { x < length g.now.lblocks.now }
         requires leads { (y : Node) → Arrow (sheet_of g.now) (at x) y → Leads (sheet_of g.now) self.old.set self.old.from y }
@@ -96,8 +88,6 @@ impl Reach {
 
     // Makes ready for a traversal.
     fn reset(&mut self, g: &Graph, set: usize, from: Node)
-        requires graph { Searchable g.now }
-        requires reserved { Reserved self.old }
         ensures going { Going (sheet_of g.now) self.new }
         ensures set { self.new.set ≡ set }
         ensures from { self.new.from ≡ from }
@@ -105,13 +95,11 @@ impl Reach {
         self.set = set;
         self.from = from;
         self.queue.clear();
-        refill(&mut self.seen, g.lblocks.len() + 1, false);
+        self.seen.refill(g.lblocks.len() + 1, false);
     }
 
     // Sees each node that an arrow leads to from `from`.
     fn begin(&mut self, g: &Graph, set: usize, from: Node)
-        requires graph { Searchable g.now }
-        requires reserved { Reserved self.old }
         requires source { Source (sheet_of g.now) from }
         ensures going { Going (sheet_of g.now) self.new }
         ensures set { self.new.set ≡ set }
@@ -128,15 +116,12 @@ impl Reach {
 
     // Sees exactly the nodes that a path leads to from `from` with no l-block of the set strictly inside.
     pub(crate) fn run(&mut self, g: &Graph, set: usize, from: Node)
-        requires graph { Searchable g.now }
-        requires reserved { Reserved self.old }
         requires source { Source (sheet_of g.now) from }
         ensures { Reached (sheet_of g.now) set from self.new }
     {
         self.begin(g, set, from);
         let mut head = 0;
-        while head < self.queue.len() {
-            let x = self.queue[head];
+        while let Some(&x) = self.queue.as_slice().get(head) {
             self.spread(g, x);
             head += 1;
         }

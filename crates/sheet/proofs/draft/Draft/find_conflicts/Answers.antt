@@ -1,30 +1,19 @@
-use Rattle.std.proofs.Common.{length, vec_items, ap, arith}
+use Rattle.std.proofs.Common.{length, ap, arith}
 use Rattle.sheet.specs.Tried.{items_of}
-use Rattle.sheet.proofs.Finding.{find_formed, find_table, found_all, found_many}
+use Rattle.sheet.proofs.Finding.{find_formed, find_table, found_of}
 use Rattle.sheet.proofs.draft.Draft.find_conflicts.Goals as goal
 
 pub find-requires : goal.find-requires
 find-requires c =
-    let p = c.requires.ready.0 in
+    let p = c.requires.0 in
     record {
-      formed = find_formed (items_of c.args.self.now) c.deref.result.now c.deref-2.result.now c.deref-3.result.now c.deref.ensures.value c.deref-2.ensures.value c.deref-3.ensures.value c.requires.ready;
-      table = find_table (items_of c.args.self.now) c.deref.result.now c.deref-2.result.now c.deref-3.result.now c.deref.ensures.value c.deref-2.ensures.value c.deref-3.ensures.value c.requires.ready;
+      formed = find_formed (items_of c.args.self.now) c.deref.result.now c.deref-2.result.now c.deref-3.result.now c.deref.ensures.value c.deref-2.ensures.value c.deref-3.ensures.value c.requires;
+      table = find_table (items_of c.args.self.now) c.deref.result.now c.deref-2.result.now c.deref-3.result.now c.deref.ensures.value c.deref-2.ensures.value c.deref-3.ensures.value c.requires;
       blocks = omega (arith, ap length c.deref.ensures.value, p.blocks_fit.few_blocks);
       lblocks = omega (arith, ap length c.deref-2.ensures.value, p.blocks_fit.few_lblocks);
       edges = omega (arith, ap length c.deref-3.ensures.value, p.edges_fit.few);
-      room = c.requires.room;
     }
 
-pub returns-in-Ok : goal.returns-in-Ok
-returns-in-Ok c = record {
-  found = found_all (items_of c.args.self.now) c.deref.result.now c.deref-2.result.now c.deref-3.result.now c.deref.ensures.value c.deref-2.ensures.value c.deref-3.ensures.value
-      (vec_items c.find.new.out) c.in-Ok.ensures.listed;
-  room = c.in-Ok.ensures.room;
-}
-
-pub returns-in-Err : goal.returns-in-Err
-returns-in-Err c = record {
-  found = found_many (items_of c.args.self.now) c.deref.result.now c.deref-2.result.now c.deref-3.result.now c.deref.ensures.value c.deref-2.ensures.value c.deref-3.ensures.value
-      c.in-Err.set c.in-Err.ensures.listed;
-  room = c.in-Err.ensures.room;
-}
+pub returns : goal.returns
+returns c = found_of (items_of c.args.self.now) c.deref.result.now c.deref-2.result.now c.deref-3.result.now c.deref.ensures.value c.deref-2.ensures.value c.deref-3.ensures.value
+    c.find.result c.find.new.out.list.items c.find.ensures

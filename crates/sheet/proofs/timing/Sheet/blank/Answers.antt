@@ -11,15 +11,13 @@ invariant_of-result c =
     let e = c.in_ok-draft.ensures in
     let f = c.in_ok-conflicts.ensures in
     let d = c.in_ok-draft.draft in record {
-      room = f.1;
       few_blocks = omega (arith, d.blocks.ok.0, ap (λ i. length i.blocks) e);
       few_lblocks = omega (arith, d.lblocks.ok.0, ap (λ i. length i.lblocks) e);
       few_edges = omega (arith, d.edges.ok.0, ap (λ i. length i.edges) e);
       few_loops = omega (arith, d.loops.ok.0, ap (λ i. length i.loops) e);
       few_facts = omega (arith, d.facts.ok.0, ap (λ i. length i.facts) e);
-      few_conflicts = omega (arith, c.in_ok-conflicts.conflicts.ok.0, ap length f.0);
       few_used = omega arith;
       counted = sym (ap (λ i. length (used_sets (sheet_of i))) e ∙ blank_used);
-      listed = f.0 ∙ sym (ap (λ i. conflicts (sheet_of i)) e ∙ blank_listed);
+      listed = f ∙ sym (ap (λ i. conflicts (sheet_of i)) e ∙ blank_listed);
       kept = ∣ subst Kept (sym e) blank_kept ∣₁;
     }

@@ -1,13 +1,18 @@
-use Rattle.std.proofs.Common.{true, false, arith}
-use Rattle.sheet.proofs.Used.{used_more, used_few}
+use Rattle.std.proofs.Common.{◌≡◌, ℕ, zero, suc, Bool, eqb, length, filter, refl, ap, ◌∙◌, add-one, arith, rules, tests}
+use Rattle.std.specs.List.{range_with_len}
+use Rattle.std.proofs.lemmas.Iterator.{YieldsList-from_range}
+use Rattle.std.proofs.lemmas.Iterator.Consumers.{YieldsList-from_filter, count_from_yields_List}
+use Rattle.words.specs.Lists.{up_from, any}
+use Rattle.sheet.specs.Sheet.{LBlock}
 use Rattle.sheet.proofs.timing.replace.count_used.Goals as goal
-use Rattle.sheet.proofs.timing.replace.count_used.Goals.{then-is_used, else-is_used}
 
-pub overflow_add-used : goal.overflow_add-used
-overflow_add-used c = omega (arith, used_few c.args.lblocks.now c.loop-set.set)
+range_is : (i n : ℕ) → range_with_len i n ≡ up_from i n
+range_is i zero = refl
+range_is i (suc n) = rw (add-one, range_is (suc i) n) refl
 
-pub loop-set-preserved : goal.loop-set-preserved
-loop-set-preserved c = elim c.if-is_used.branch [
-  | then-is_used w ↦ omega (arith, w.used-is, c.loop-set.invariant, used_more c.args.lblocks.now c.loop-set.set true w.if-is_used.ensures)
-  | else-is_used w ↦ omega (arith, w.used-is, c.loop-set.invariant, used_more c.args.lblocks.now c.loop-set.set false w.if-is_used.ensures)
-]
+pub returns : goal.returns
+returns c =
+    let has : ℕ → Bool = λ s. any (λ (b : LBlock). eqb b.set s) c.args.lblocks.now in
+    count_from_yields_List c.filter.result c.count.result c.count.ensures.ran
+    (YieldsList-from_filter _ has (YieldsList-from_range 0 _ c.args.sets c.filter.ensures.source (omega arith)) c.filter.ensures.closure (λ x b q k. search (rules, tests)))
+    ∙ ap (λ xs. length (filter has xs)) (range_is 0 c.args.sets)

@@ -1,9 +1,5 @@
-use Rattle.std.proofs.Common.{◌≡◌, vec_items, vec_capacity}
-use Rattle.sheet.specs.Traversal.{Linked}
+use Rattle.sheet.specs.Graph.{Linked}
 use Rattle.sheet.proofs.traversal.graph.link.Given as goal
 
-abbrev pub invariant-loop-e : goal.invariant-loop-e
-invariant-loop-e l =
-    Linked l.edges l.blocks l.e-index (vec_items l.latest) (vec_items l.before)
-    × (vec_capacity l.latest ≡ vec_capacity l.initial.latest)
-    × (vec_capacity l.before ≡ vec_capacity l.initial.before)
+abbrev pub invariant-loop-i : goal.invariant-loop-i
+invariant-loop-i l = Linked l.edges l.blocks l.i l.latest.list.items l.before.list.items

@@ -1,27 +1,16 @@
-use Rattle.std.proofs.Common.{◌+◌, Bool, ◌||◌, eqb, get_or, drop, sym, ap, ◌∙◌}
-use Rattle.std.proofs.lemmas.List.{at_drop_more, at_drop_all}
-use Rattle.std.proofs.lemmas.Bool.{eq-eqb, ne_eqb, or_left}
+use Rattle.std.proofs.Common.{◌≡◌, Bool, ◌||◌, eqb, List, [], ◌∷◌, refl, ap, ◌∙◌, rules, tests}
+use Rattle.std.specs.List.{list_any}
+use Rattle.std.proofs.lemmas.Iterator.{YieldsList-from_slice}
+use Rattle.std.proofs.lemmas.Iterator.Search.{any_from_yields_List}
 use Rattle.words.specs.Lists.{any}
-use Rattle.sheet.specs.Sheet.{LBlock, no_lblock}
+use Rattle.sheet.specs.Sheet.{LBlock}
 use Rattle.sheet.proofs.traversal.list.is_used.Goals as goal
 
-pub returns-then-b-set : goal.returns-then-b-set
-returns-then-b-set c =
-    let has : LBlock → Bool = λ b. eqb b.set c.args.set in
-    let xs = c.args.lblocks.now in
-    let i = c.loop-b.b-index in
-    sym (or_left (has (get_or xs i no_lblock)) (any has (drop (i + 1) xs)) (eq-eqb _ c.args.set c.if-b-set.true))
-    ∙ sym (at_drop_more (any has) xs i no_lblock c.loop-b-test.true) ∙ c.loop-b.invariant
-
-pub loop-b-preserved : goal.loop-b-preserved
-loop-b-preserved c =
-    let has : LBlock → Bool = λ b. eqb b.set c.args.set in
-    let xs = c.args.lblocks.now in
-    let i = c.loop-b.b-index in
-    ap (λ t. t || any has (drop (i + 1) xs)) (sym (ne_eqb _ c.args.set c.if-b-set.false))
-    ∙ sym (at_drop_more (any has) xs i no_lblock c.loop-b-test.true) ∙ c.loop-b.invariant
+any_is : {A : Type 0} (p : A → Bool) (xs : List A) → list_any p xs ≡ any p xs
+any_is p [] = refl
+any_is p (x ∷ xs) = ap (λ b. p x || b) (any_is p xs)
 
 pub returns : goal.returns
 returns c =
     let has : LBlock → Bool = λ b. eqb b.set c.args.set in
-    sym (at_drop_all (any has) c.args.lblocks.now c.loop-b.b-index c.loop-b-test.false) ∙ c.loop-b.invariant
+    any_from_yields_List has _ _ _ c.any.ensures.ran (YieldsList-from_slice c.args.lblocks.now cc) (λ x b q k. search (rules, tests)) ∙ any_is has c.args.lblocks.now

@@ -12,20 +12,18 @@ visit-requires c =
     let S = sheet_of g in
     let first = first_of g.blocks.now in
     let size = size_of g.blocks.now in
-    let low = first_in S c.requires.graph.formed first size c.requires.graph.table 0 c.requires.graph.formed.starts in
+    let low = first_in S c.args.g.now.ready.formed first size c.args.g.now.ready.table 0 c.args.g.now.ready.formed.starts in
     record {
-      graph = c.requires.graph;
       going = c.reset.ensures.going;
       known = omega arith;
       leads = one (subst₂ (Arrow S) (sym (c.reset.ensures.from ∙ c.in-Start.is)) (sym (node_at S (first 0) low))
-          (arrow_start S c.requires.graph.formed first size c.requires.graph.table));
+          (arrow_start S c.args.g.now.ready.formed first size c.args.g.now.ready.table));
     }
 
 pub spread-requires : goal.spread-requires
 spread-requires c =
     let S = sheet_of c.args.g.now in
     record {
-      graph = c.requires.graph;
       going = c.reset.ensures.going;
       known = subst (Source S) c.in-At.is c.requires.source;
       leads = λ y a. one (subst (λ x. Arrow S x y) (sym (c.reset.ensures.from ∙ c.in-At.is)) a);
@@ -41,7 +39,7 @@ returns-in-Start c =
       set = c.visit.ensures.on.same_set ∙ c.reset.ensures.set;
       from = c.visit.ensures.on.same_from ∙ c.reset.ensures.from;
       saw = λ k l a.
-          let e = start_only S c.requires.graph.formed first (size_of g.blocks.now) c.requires.graph.table (subst (λ x. Arrow S x (node S k)) c.in-Start.is a) in
+          let e = start_only S c.args.g.now.ready.formed first (size_of g.blocks.now) c.args.g.now.ready.table (subst (λ x. Arrow S x (node S k)) c.in-Start.is a) in
           subst (λ i. saw c.visit.new.self i ≡ true) (sym (at_number S k (first 0) e)) c.visit.ensures.saw;
     }
 

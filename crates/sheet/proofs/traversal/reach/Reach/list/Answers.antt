@@ -1,45 +1,53 @@
-use Rattle.std.proofs.Common.{◌+◌, ◌<◌, ◌++◌, length, vec_items, subst, arith}
+use Rattle.std.proofs.Common.{◌+◌, ◌<◌, ◌++◌, length, length-append, sym, refl, ◌∙◌, ap, subst, arith}
+use Rattle.std.proofs.lemmas.List.{append-nil}
+use Rattle.std.proofs.lemmas.Result.{err_from_is_err_and}
 use Rattle.words.specs.Lists.{below, joined}
 use Rattle.sheet.specs.Conflict.{END}
-use Rattle.sheet.specs.Traversal.{sheet_of, edge_at, edge_to}
-use Rattle.sheet.proofs.Added.{added_is, added_after, added_over, rest_more, rest_over, rest_all, from_parts}
+use Rattle.sheet.specs.Traversal.{sheet_of, Added, edge_at, edge_to}
+use Rattle.sheet.proofs.Nodes.{node_end}
+use Rattle.sheet.proofs.Added.{added_after, rest_more, rest_over, rest_all, from_parts, seen_to, seen_at, other_at}
 use Rattle.sheet.proofs.traversal.reach.Reach.list.Goals as goal
+use Rattle.sheet.proofs.traversal.reach.Reach.list.Goals.{then-b-self+in_ok-list_to, else-b-self}
 
-pub returns-then-not-list_at : goal.returns-then-not-list_at
-returns-then-not-list_at c =
+pub returns-in_err-list_to : goal.returns-in_err-list_to
+returns-in_err-list_to c =
     let S = sheet_of c.args.g.now in
-    let s = c.args.self.now.set in
-    let u = c.args.self.now.from in
-    let xs = vec_items c.args.out.now in
+    let r = c.args.self.now in
+    let s = r.set in
+    let u = r.from in
+    let v = c.loop-v.v in
+    let xs = c.args.out.now.list.items in
+    let ys = c.loop-v.out.list.items in
     let first = joined (edge_at S s u) (below (length S.lblocks)) in
-    record {
-      added = subst (λ ys. 4096 < length xs + length ys) (from_parts S s u)
-          (added_over xs first (edge_to S s u END)
-          (rest_over (edge_at S s u) (length S.lblocks) (xs ++ first) (vec_items c.loop-v.out) c.loop-v.v c.loop-v-test.true c.loop-v.invariant.0 c.if-not-list_at.ensures.added));
-      room = c.list_at.ensures.room;
-    }
+    let p = err_from_is_err_and c.from_residual.result c.from_residual.ensures.1 in
+    let h = subst (λ a. 4096 < length ys + length a) (seen_at S r c.requires.reached v c.loop-v-test.true c.if-b-self.true) c.in_err-list_to.ensures.0 in
+    let k : 4096 < length xs + length first = rest_over (edge_at S s u) (length S.lblocks) (xs ++ first) ys xs first v c.loop-v-test.true c.loop-v.invariant refl h in
+    rw p.1 (
+      subst (λ a. 4096 < length xs + length a) (from_parts S s u) (omega (arith, k, length-append first (edge_to S s u END))),
+      p.2 ∙ c.in_err-list_to.ensures.1,
+    )
 
 pub loop-v-preserved : goal.loop-v-preserved
 loop-v-preserved c =
     let S = sheet_of c.args.g.now in
-    let s = c.args.self.now.set in
-    let u = c.args.self.now.from in
-    let h = c.if-not-list_at.ensures.added in (
-      rest_more (edge_at S s u) (length S.lblocks) _ (vec_items c.loop-v.out) (vec_items c.list_at.new.out) c.loop-v.v c.loop-v-test.true c.loop-v.invariant.0 h.0,
-      omega (arith, h.1),
-      c.list_at.ensures.room,
-    )
+    let r = c.args.self.now in
+    let v = c.loop-v.v in
+    let xs = c.loop-v.out.list.items in
+    rest_more (edge_at S r.set r.from) (length S.lblocks) _ xs c.if-b-self.out.list.items v c.loop-v-test.true c.loop-v.invariant
+    (elim c.if-b-self.branch [
+      | then-b-self+in_ok-list_to w ↦ rw w.out-is (w.in_ok-list_to.ensures ∙ ap (λ a. xs ++ a) (seen_at S r c.requires.reached v c.loop-v-test.true w.if-b-self.true))
+      | else-b-self w ↦ rw (w.out-is, other_at S r.set v r.from w.if-b-self.false) (sym (append-nil xs))
+    ])
 
 pub returns : goal.returns
 returns c =
     let S = sheet_of c.args.g.now in
-    let s = c.args.self.now.set in
-    let u = c.args.self.now.from in
-    let xs = vec_items c.args.out.now in
-    let first = joined (edge_at S s u) (below (length S.lblocks)) in
-    record {
-      added = added_is xs (first ++ edge_to S s u END) _ c.list_end.result (vec_items c.list_end.new.out) (from_parts S s u)
-          (added_after xs first (edge_to S s u END) (vec_items c.loop-v.out) c.list_end.result (vec_items c.list_end.new.out)
-          (rest_all (edge_at S s u) (length S.lblocks) (xs ++ first) (vec_items c.loop-v.out) c.loop-v.v c.loop-v-test.false c.loop-v.invariant.0) c.list_end.ensures.added);
-      room = c.list_end.ensures.room;
-    }
+    let r = c.args.self.now in
+    let n = length S.lblocks in
+    let xs = c.args.out.now.list.items in
+    let ys = c.loop-v.out.list.items in
+    let first = joined (edge_at S r.set r.from) (below n) in
+    subst (λ a. Added r.set xs a c.list_to-2.result c.list_to-2.new.out.list.items) (from_parts S r.set r.from)
+    (added_after r.set xs first (edge_to S r.set r.from END) ys c.list_to-2.result c.list_to-2.new.out.list.items
+    (rest_all (edge_at S r.set r.from) n (xs ++ first) ys c.loop-v.v c.loop-v-test.false c.loop-v.invariant)
+    (subst (λ a. Added r.set ys a c.list_to-2.result c.list_to-2.new.out.list.items) (seen_to S r c.requires.reached n END (omega arith) (node_end S)) c.list_to-2.ensures))

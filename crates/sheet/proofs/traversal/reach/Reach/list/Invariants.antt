@@ -1,4 +1,4 @@
-use Rattle.std.proofs.Common.{◌≡◌, ◌-◌, ◌≤◌, ◌++◌, length, vec_items, vec_len, vec_capacity}
+use Rattle.std.proofs.Common.{◌≡◌, ◌-◌, ◌++◌, length}
 use Rattle.words.specs.Lists.{up_from, below, joined}
 use Rattle.sheet.specs.Traversal.{sheet_of, edge_at}
 use Rattle.sheet.proofs.traversal.reach.Reach.list.Given as goal
@@ -6,7 +6,5 @@ use Rattle.sheet.proofs.traversal.reach.Reach.list.Given as goal
 -- with the edges to the l-blocks that are left, the list is whole
 abbrev pub invariant-loop-v : goal.invariant-loop-v
 invariant-loop-v l =
-    (vec_items l.out ++ joined (edge_at (sheet_of l.g) l.self.set l.self.from) (up_from l.v (length l.g.lblocks.now - l.v))
-    ≡ vec_items l.initial.out ++ joined (edge_at (sheet_of l.g) l.self.set l.self.from) (below (length l.g.lblocks.now)))
-    × (vec_len l.out ≤ 4096)
-    × (4096 ≤ vec_capacity l.out)
+    l.out.list.items ++ joined (edge_at (sheet_of l.g) l.self.set l.self.from) (up_from l.v (length l.g.lblocks.now - l.v))
+    ≡ l.initial.out.list.items ++ joined (edge_at (sheet_of l.g) l.self.set l.self.from) (below (length l.g.lblocks.now))

@@ -1,60 +1,48 @@
-use Rattle.std.proofs.Common.{◌+◌, ◌<◌, true, false, ◌++◌, length, vec_items, subst, arith, length-append}
+use Rattle.std.proofs.Common.{◌+◌, ◌<◌, Err, [], ◌++◌, length, sym, refl, ◌∙◌, ap, subst}
+use Rattle.std.proofs.lemmas.Bool.{cond-true, cond-false, eq-eqb, ne_eqb}
+use Rattle.std.proofs.lemmas.List.{append-nil, append_assoc}
+use Rattle.std.proofs.lemmas.Result.{err_from_is_err_and}
 use Rattle.words.specs.Lists.{below, joined}
-use Rattle.sheet.specs.Conflict.{START}
-use Rattle.sheet.specs.ConflictList.{conflicts_from, conflicts_of}
-use Rattle.sheet.specs.Traversal.{sheet_of, edges_from}
-use Rattle.sheet.proofs.Added.{added_is, added_after, rest_more, rest_over, rest_all, of_parts}
+use Rattle.sheet.specs.Conflict.{START, at, in_set}
+use Rattle.sheet.specs.ConflictList.{conflicts_from}
+use Rattle.sheet.specs.Traversal.{sheet_of, Added, edges_from}
+use Rattle.sheet.proofs.Added.{added_after, rest_more, rest_over, rest_all, of_parts}
 use Rattle.sheet.proofs.traversal.reach.Reach.list_set.Goals as goal
+use Rattle.sheet.proofs.traversal.reach.Reach.list_set.Goals.{then-b-set+in_ok-list_from-2, else-b-set}
 
-pub returns-then-not-list_from : goal.returns-then-not-list_from
-returns-then-not-list_from c =
+pub returns-in_err-list_from-2 : goal.returns-in_err-list_from-2
+returns-in_err-list_from-2 c =
     let S = sheet_of c.args.g.now in
     let s = c.args.set in
-    let xs = vec_items c.args.out.now in
-    let h = c.if-not-list_from.ensures.added in
+    let v = c.loop-v.v in
+    let xs = c.args.out.now.list.items in
+    let ys = c.list_from.new.out.list.items in
     let rest = joined (edges_from S s) (below (length S.lblocks)) in
-    record {
-      added = subst (λ ys. 4096 < length xs + length ys) (of_parts S s) (omega (arith, h, length-append (conflicts_from S s START) rest));
-      room = c.list_from.ensures.room;
-      reserved = c.list_from.ensures.reserved;
-    }
-
-pub returns-then-not-list_lblock : goal.returns-then-not-list_lblock
-returns-then-not-list_lblock c =
-    let S = sheet_of c.args.g.now in
-    let s = c.args.set in
-    let xs = vec_items c.args.out.now in
-    let ys = vec_items c.list_from.new.out in
-    let rest = joined (edges_from S s) (below (length S.lblocks)) in
-    let h = rest_over (edges_from S s) (length S.lblocks) (ys ++ rest) (vec_items c.loop-v.out) c.loop-v.v c.loop-v-test.true c.loop-v.invariant.0 c.if-not-list_lblock.ensures.added in
-    record {
-      added = subst (λ zs. 4096 < length xs + length zs) (of_parts S s)
-          (added_after xs (conflicts_from S s START) rest ys false ys c.if-not-list_from.ensures.added.0 (omega (arith, h, length-append ys rest)));
-      room = c.list_lblock.ensures.room;
-      reserved = c.list_lblock.ensures.reserved;
-    }
+    let p = err_from_is_err_and c.from_residual-in_err-list_from-2.result c.from_residual-in_err-list_from-2.ensures.1 in
+    let h = subst (λ a. 4096 < length c.loop-v.out.list.items + length a) (sym (cond-true (in_set S s (at v)) (conflicts_from S s (at v)) [] (eq-eqb _ s c.if-b-set.true))) c.in_err-list_from-2.ensures.0 in
+    let k = rest_over (edges_from S s) (length S.lblocks) (ys ++ rest) c.loop-v.out.list.items ys rest v c.loop-v-test.true c.loop-v.invariant refl h in
+    rw p.1 (subst (λ a. Added s xs a (Err p.0) ys) (of_parts S s)
+    (added_after s xs (conflicts_from S s START) rest ys (Err p.0) ys c.in_ok-list_from.ensures (k, p.2 ∙ c.in_err-list_from-2.ensures.1)))
 
 pub loop-v-preserved : goal.loop-v-preserved
 loop-v-preserved c =
     let S = sheet_of c.args.g.now in
-    let h = c.if-not-list_lblock.ensures.added in (
-      rest_more (edges_from S c.args.set) (length S.lblocks) _ (vec_items c.loop-v.out) (vec_items c.list_lblock.new.out) c.loop-v.v c.loop-v-test.true c.loop-v.invariant.0 h.0,
-      omega (arith, h.1),
-      c.list_lblock.ensures.room,
-      c.list_lblock.ensures.reserved,
-    )
+    let s = c.args.set in
+    let v = c.loop-v.v in
+    let xs = c.loop-v.out.list.items in
+    rest_more (edges_from S s) (length S.lblocks) _ xs c.if-b-set.out.list.items v c.loop-v-test.true c.loop-v.invariant
+    (elim c.if-b-set.branch [
+      | then-b-set+in_ok-list_from-2 w ↦
+          rw w.out-is (w.in_ok-list_from-2.ensures ∙ ap (λ a. xs ++ a) (sym (cond-true (in_set S s (at v)) (conflicts_from S s (at v)) [] (eq-eqb _ s w.if-b-set.true))))
+      | else-b-set w ↦ rw (w.out-is, cond-false (in_set S s (at v)) (conflicts_from S s (at v)) [] (ne_eqb _ s w.if-b-set.false)) (sym (append-nil xs))
+    ])
 
 pub returns : goal.returns
 returns c =
     let S = sheet_of c.args.g.now in
     let s = c.args.set in
-    let xs = vec_items c.args.out.now in
-    let ys = vec_items c.list_from.new.out in
-    let rest = joined (edges_from S s) (below (length S.lblocks)) in
-    record {
-      added = added_is xs (conflicts_from S s START ++ rest) (conflicts_of S s) true (vec_items c.loop-v.out) (of_parts S s)
-          (added_after xs (conflicts_from S s START) rest ys true (vec_items c.loop-v.out) c.if-not-list_from.ensures.added.0
-          (rest_all (edges_from S s) (length S.lblocks) (ys ++ rest) (vec_items c.loop-v.out) c.loop-v.v c.loop-v-test.false c.loop-v.invariant.0, omega (arith, c.loop-v.invariant.1)));
-      room = c.loop-v.invariant.2;
-      reserved = c.loop-v.invariant.3;
-    }
+    let n = length S.lblocks in
+    let rest = joined (edges_from S s) (below n) in
+    let xs = c.args.out.now.list.items in
+    rest_all (edges_from S s) n (c.list_from.new.out.list.items ++ rest) c.loop-v.out.list.items c.loop-v.v c.loop-v-test.false c.loop-v.invariant
+    ∙ ap (λ a. a ++ rest) c.in_ok-list_from.ensures ∙ append_assoc xs (conflicts_from S s START) rest ∙ ap (λ a. xs ++ a) (of_parts S s)

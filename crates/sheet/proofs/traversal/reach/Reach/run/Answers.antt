@@ -1,4 +1,5 @@
-use Rattle.std.proofs.Common.{◌≡◌, ℕ, ◌<◌, true, false, length, vec_items, sym, ◌∙◌, subst, subst₂, arith}
+use Rattle.std.proofs.Common.{◌≡◌, ℕ, ◌<◌, ◌≤◌, true, false, length, sym, ◌∙◌, subst, subst₂, arith}
+use Rattle.std.proofs.lemmas.Bool.{ltb-true, ltb-false}
 use Rattle.std.proofs.lemmas.List.{get_or_read}
 use Rattle.std.proofs.ByRecursion.{All-get_or}
 use Rattle.sheet.specs.Conflict.{at, Leads, more, in_set}
@@ -7,36 +8,35 @@ use Rattle.sheet.proofs.Front.{front_done}
 use Rattle.sheet.proofs.Nodes.{node_at}
 use Rattle.sheet.proofs.traversal.reach.Reach.run.Goals as goal
 
-pub spread-requires : goal.spread-requires
-spread-requires c =
+pub spread-requires-clause-leads : goal.spread-requires-clause-leads
+spread-requires-clause-leads c =
     let S = sheet_of c.args.g.now in
-    let r = c.loop-head.self in
-    let f = c.loop-head.invariant.0.going.front in
-    let x = c.index-x.result.now in
-    let l : c.loop-head.head < length (vec_items r.queue) = omega (arith, c.loop-head-test.true) in
+    let r = c.loop-x.self in
+    let f = c.loop-x.invariant.0.going in
+    let x = c.in-Some.field-0.now in
+    let i = c.loop-x.head in
+    let xs = c.as_slice.result.now in
+    let h = c.in-Some.ensures.lookup in
+    let l : i < length xs = ltb-true i (length xs) (sym h.0) in
     let P : ℕ → Type 0 = λ q. (q < length S.lblocks) × (in_set S r.set (at q) ≡ false) × (saw r q ≡ true) in
-    let h = subst P (sym (get_or_read (vec_items r.queue) c.loop-head.head x l c.index-x.ensures 0)) (All-get_or P (vec_items r.queue) c.loop-head.head 0 l f.inner) in
-    record {
-      graph = c.requires.graph;
-      going = c.loop-head.invariant.0.going;
-      known = h.0;
-      leads = λ y a. more (subst (Leads S r.set r.from) (node_at S x h.0) (f.sound x (omega (arith, f.sized, h.0)) h.2)) h.1 a;
-    }
+    let p = subst P (sym (get_or_read xs i x l h.1 0)) (rw c.as_slice.ensures.items (All-get_or P r.queue.list.items i 0 (rw c.as_slice.ensures.items at l) f.inner)) in
+    λ y a. more (subst (Leads S r.set r.from) (node_at S x p.0) (f.sound x (omega (arith, f.sized, p.0)) p.2)) p.1 a
 
 pub returns : goal.returns
 returns c =
     let S = sheet_of c.args.g.now in
-    let r = c.loop-head.self in
-    let on = c.loop-head.invariant.0 in
+    let r = c.loop-x.self in
+    let on = c.loop-x.invariant.0 in
     let set_is = on.same_set ∙ c.begin.ensures.set in
     let from_is = on.same_from ∙ c.begin.ensures.from in
+    let h = c.in_default.ensures.lookup in
+    let done : length r.queue.list.items ≤ c.loop-x.head = rw c.as_slice.ensures.items at (ltb-false c.loop-x.head (length c.as_slice.result.now) (sym h.0)) in
     record {
       set_is = set_is;
       from_is = from_is;
-      sized = on.going.front.sized;
-      found = front_done S c.args.set c.args.from (vec_items r.seen) (vec_items r.queue)
-          (subst₂ (λ s u. Front S s u (vec_items r.seen) (vec_items r.queue)) set_is from_is on.going.front)
+      sized = on.going.sized;
+      found = front_done S c.args.set c.args.from r.seen.list.items r.queue.list.items
+          (subst₂ (λ s u. Front S s u r.seen.list.items r.queue.list.items) set_is from_is on.going)
           (λ k l a. on.grown.seen_kept k (c.begin.ensures.saw k l a))
-          (λ i l. c.loop-head.invariant.2 i (omega (arith, c.loop-head-test.false)));
-      reserved = on.going.reserved;
+          (λ i l. c.loop-x.invariant.2 i (omega arith));
     }

@@ -1,15 +1,15 @@
-use Rattle.std.proofs.Common.{◌≡◌, ℕ, ◌-◌, ◌<◌, ◌≤◌, true, length, get_or, vec_items}
+use Rattle.std.proofs.Common.{◌≡◌, ℕ, ◌-◌, ◌<◌, ◌≤◌, true, length, get_or}
 use Rattle.sheet.specs.Conflict.{at, Arrow}
 use Rattle.sheet.specs.Traversal.{sheet_of, node, On, saw}
 use Rattle.sheet.proofs.traversal.reach.Reach.run.Given as goal
 
 -- the search went on from the nodes that are queued before `head`
-abbrev pub invariant-loop-head : goal.invariant-loop-head
-invariant-loop-head l =
+abbrev pub invariant-loop-x : goal.invariant-loop-x
+invariant-loop-x l =
     On (sheet_of l.g) l.initial.self l.self
-    × (l.head ≤ length (vec_items l.self.queue))
-    × ((i : ℕ) → i < l.head → (k : ℕ) → k ≤ length l.g.lblocks.now → Arrow (sheet_of l.g) (at (get_or (vec_items l.self.queue) i 0)) (node (sheet_of l.g) k)
+    × (l.head ≤ length l.self.queue.list.items)
+    × ((i : ℕ) → i < l.head → (k : ℕ) → k ≤ length l.g.lblocks.now → Arrow (sheet_of l.g) (at (get_or l.self.queue.list.items i 0)) (node (sheet_of l.g) k)
     → saw l.self k ≡ true)
 
-abbrev pub decreases-loop-head : goal.decreases-loop-head
-decreases-loop-head l = 513 - l.head
+abbrev pub decreases-loop-x : goal.decreases-loop-x
+decreases-loop-x l = 513 - l.head
