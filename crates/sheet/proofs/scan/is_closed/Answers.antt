@@ -1,13 +1,8 @@
-use Rattle.std.proofs.Common.{sym}
-use Rattle.std.proofs.lemmas.Bool.{eq-eqb, ne_eqb}
-use Rattle.words.proofs.Scans.{any_more, any_whole, any_at}
+use Rattle.std.proofs.Common.{eqb, rules}
+use Rattle.std.proofs.lemmas.Iterator.{YieldsList-from_slice}
+use Rattle.std.proofs.lemmas.Iterator.Search.{any_from_yields_List}
+use Rattle.sheet.proofs.Drafts.{any_is}
 use Rattle.sheet.proofs.scan.is_closed.Goals as goal
 
-pub loop-b-preserved : goal.loop-b-preserved
-loop-b-preserved c = any_more _ _ _ (record { owner = 0; source = 0 }) c.loop-b-test.true c.loop-b.invariant (ne_eqb _ _ c.if-b-owner.false)
-
-pub returns-then-b-owner : goal.returns-then-b-owner
-returns-then-b-owner c = sym (any_at _ _ _ (record { owner = 0; source = 0 }) c.loop-b-test.true (eq-eqb _ _ c.if-b-owner.true))
-
 pub returns : goal.returns
-returns c = sym (any_whole _ _ _ (record { owner = 0; source = 0 }) c.loop-b-test.false c.loop-b.invariant)
+returns c = rw any_is (any_from_yields_List (λ b. eqb b.owner c.args.owner) _ _ _ c.any.ensures.ran (YieldsList-from_slice c.args.backs.now cc) (λ x b q k. search rules))
