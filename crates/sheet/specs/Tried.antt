@@ -15,12 +15,12 @@ use Rattle.sheet.specs.Drafts.{Items, backs_of, add_loop}
 abbrev pub items_of : Draft → Items
 items_of d = record {
   sets = d.sets;
-  blocks = vec_items d.blocks;
-  lblocks = vec_items d.lblocks;
-  edges = vec_items d.edges;
-  loops = vec_items d.loops;
-  backs = vec_items d.backs;
-  facts = vec_items d.facts;
+  blocks = vec_items d.blocks.list;
+  lblocks = vec_items d.lblocks.list;
+  edges = vec_items d.edges.list;
+  loops = vec_items d.loops.list;
+  backs = vec_items d.backs.list;
+  facts = vec_items d.facts.list;
 }
 
 -- What a word must meet that stands in or after a loop, said of the items as they are held. The code tries these; where its items are ready
@@ -63,7 +63,7 @@ end_checks s I p i rest =
     ∷ demand (empty rest) wrong_end (suc i) ∷ []
 
 -- one test
-abbrev pub Demanded : Bool → SheetFault → Result (Unit {0}) SheetFault → Type 0
+abbrev pub Demanded : {F : Type 0} → Bool → F → Result (Unit {0}) F → Type 0
 Demanded t fault (Ok u) = t ≡ true
 Demanded t fault (Err e) = (t ≡ false) × (e ≡ fault)
 

@@ -6,7 +6,6 @@ mod draft;
 pub mod fault;
 pub mod parts;
 pub mod room;
-mod scan;
 mod section;
 pub mod timing;
 mod traversal;

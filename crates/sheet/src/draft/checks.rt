@@ -1,35 +1,22 @@
 // What each word of a sheet must meet, and the item that it adds. The checks are tried in order, the lower number first.
-ghost use Rattle.std.specs.Prelude.{◌≡◌, ◌+◌, ◌-◌, ◌<◌, true, false, [], ◌∷◌, length, drop, Ok, Err, vec_len};
+ghost use Rattle.std.specs.Prelude.{◌≡◌, ◌+◌, ◌-◌, ◌<◌, true, false, [], ◌∷◌, length, drop, Ok, Err};
 ghost use Rattle.std.proofs.Math.Option.{none};
 ghost use Rattle.words.specs.Words.{one_of, set_field, tag_field, not_due, demand as demand_one};
 ghost use Rattle.sheet.specs.Kinds.{HEAD, BLOCK, LBLOCK, COST, EDGE};
 ghost use Rattle.sheet.specs.ReadSheet.{checks, lblock_of};
 ghost use Rattle.sheet.specs.Drafts.{sheet_of, add_head, add_block, add_lblock, add_edge, add_back, add_fact};
-ghost use Rattle.sheet.specs.Tried.{Demanded, Added, Opened, Tried, items_of, whole_in, loop_checks, back_checks, fact_checks, end_checks};
+ghost use Rattle.sheet.specs.Tried.{Demanded, Added, Opened, Tried, items_of, loop_checks, back_checks, fact_checks, end_checks};
 
 use crate::draft::Draft;
 use crate::fault::SheetFault;
 use crate::parts::{BackEdge, Block, Edge, Fact, LBlock, Loop};
-use crate::scan::{has_back, has_edge, has_entry, has_header, is_closed};
 use crate::section::Section;
 use words::reader::Reader;
 use words::refusal::WordFault;
 use words::word::{Kind, Payload, Word};
 
-const MOST_BLOCKS: usize = 128;
-
-const MOST_LBLOCKS: usize = 512;
-
-const MOST_EDGES: usize = 512;
-
-const MOST_LOOPS: usize = 32;
-
-const MOST_BACKS: usize = 64;
-
-const MOST_FACTS: usize = 32;
-
 // Refuses with this fault unless the test holds.
-pub(crate) fn demand(holds: bool, fault: SheetFault) -> Result<(), SheetFault>
+pub(crate) fn demand<F: Drop>(holds: bool, fault: F) -> Result<(), F>
     ensures { Demanded holds fault result }
 {
     if holds { Ok(()) } else { Err(fault) }
@@ -40,10 +27,7 @@ impl Draft {
         ensures { Added (checks (sheet_of (items_of self.old)) none HEAD payload.0 at []) (add_head (items_of self.old) payload.0) result (items_of self.new) }
     {
         let sets = payload.0 as usize;
-        demand(
-            1 <= sets && sets <= 64,
-            SheetFault::Word(WordFault::OutOfLimit(at)),
-        )?;
+        demand(1 <= sets && sets <= 64, WordFault::OutOfLimit(at))?;
         self.sets = sets;
         Ok(())
     }
@@ -52,13 +36,10 @@ impl Draft {
         ensures { Added (checks (sheet_of (items_of self.old)) none BLOCK payload.0 at []) (add_block (items_of self.old) payload.0) result (items_of self.new) }
     {
         let lblocks = payload.0 as usize;
-        demand(
-            1 <= lblocks && lblocks <= 16,
-            SheetFault::Word(WordFault::OutOfLimit(at)),
-        )?;
-        demand(self.blocks.len() < MOST_BLOCKS, SheetFault::TooMany(at))?;
+        demand(1 <= lblocks && lblocks <= 16, WordFault::OutOfLimit(at))?;
+        demand(!self.blocks.is_full(), SheetFault::TooMany(at))?;
         let first = self.lblocks.len();
-        self.blocks.push_reserved(Block { first, lblocks });
+        self.blocks.push(Block { first, lblocks });
         Ok(())
     }
 
@@ -68,27 +49,14 @@ impl Draft {
         let from = payload.upper() as usize;
         let to = payload.lower() as usize;
         let blocks = self.blocks.len();
-        demand(self.edges.len() < MOST_EDGES, SheetFault::TooMany(at))?;
+        demand(!self.edges.is_full(), SheetFault::TooMany(at))?;
         demand(from < blocks, SheetFault::WrongEdge(at))?;
         demand(to < blocks, SheetFault::WrongEdge(at))?;
-        demand(!has_edge(&self.edges, from, to), SheetFault::WrongEdge(at))?;
+        demand(!self.has_edge(from, to), SheetFault::WrongEdge(at))?;
         demand(to != 0, SheetFault::WrongEdge(at))?;
         demand(from != blocks - 1, SheetFault::WrongEdge(at))?;
-        self.edges.push_reserved(Edge { from, to });
+        self.edges.push(Edge { from, to });
         Ok(())
-    }
-
-    // Whether the loop that is being read has a back edge and an entry edge.
-    fn whole(&self, section: Section) -> bool
-        ensures { result ≡ whole_in section (items_of self.now) }
-    {
-        match section {
-            Section::Loop(number, header) => {
-                is_closed(&self.backs, number)
-                    && has_entry(&self.edges, &self.backs, number, header)
-            }
-            _ => true,
-        }
     }
 
     pub(crate) fn loop_word(
@@ -101,12 +69,12 @@ impl Draft {
     {
         let header = payload.upper() as usize;
         let number = self.loops.len();
-        demand(number < MOST_LOOPS, SheetFault::TooMany(at))?;
+        demand(!self.loops.is_full(), SheetFault::TooMany(at))?;
         demand(self.whole(section), SheetFault::WrongLoop(at))?;
         demand(header < self.blocks.len(), SheetFault::WrongLoop(at))?;
-        demand(!has_header(&self.loops, header), SheetFault::WrongLoop(at))?;
+        demand(!self.has_header(header), SheetFault::WrongLoop(at))?;
         let bound = payload.lower();
-        self.loops.push_reserved(Loop { header, bound });
+        self.loops.push(Loop { header, bound });
         Ok(Section::Loop(number, header))
     }
 
@@ -120,16 +88,10 @@ impl Draft {
         ensures { Added (back_checks number header (items_of self.old) payload.0 at) (add_back (items_of self.old) number payload.0) result (items_of self.new) }
     {
         let source = payload.0 as usize;
-        demand(self.backs.len() < MOST_BACKS, SheetFault::TooMany(at))?;
-        demand(
-            has_edge(&self.edges, source, header),
-            SheetFault::WrongLoop(at),
-        )?;
-        demand(
-            !has_back(&self.backs, number, source),
-            SheetFault::WrongLoop(at),
-        )?;
-        self.backs.push_reserved(BackEdge {
+        demand(!self.backs.is_full(), SheetFault::TooMany(at))?;
+        demand(self.has_edge(source, header), SheetFault::WrongLoop(at))?;
+        demand(!self.has_back(number, source), SheetFault::WrongLoop(at))?;
+        self.backs.push(BackEdge {
             owner: number,
             source,
         });
@@ -147,13 +109,13 @@ impl Draft {
         let i = payload.first_block() as usize;
         let j = payload.second_block() as usize;
         let blocks = self.blocks.len();
-        demand(self.facts.len() < MOST_FACTS, SheetFault::TooMany(at))?;
+        demand(!self.facts.is_full(), SheetFault::TooMany(at))?;
         demand(self.whole(section), SheetFault::WrongLoop(at))?;
         demand(i < blocks, SheetFault::WrongFact(at))?;
         demand(j < blocks, SheetFault::WrongFact(at))?;
         demand(i != j, SheetFault::WrongFact(at))?;
         let k = payload.lower();
-        self.facts.push_reserved(Fact { i, j, k });
+        self.facts.push(Fact { i, j, k });
         Ok(())
     }
 
@@ -178,15 +140,12 @@ impl Draft {
     pub(crate) fn lblock_word(&self, word: Word, at: usize) -> Result<(), SheetFault>
         ensures { Tried (demand_one (one_of word.kind (LBLOCK ∷ [])) not_due at ∷ checks (sheet_of (items_of self.now)) none LBLOCK word.payload.0 at []) result }
     {
-        demand(
-            matches!(word.kind, Kind::LBlock),
-            SheetFault::Word(WordFault::NotDue(at)),
-        )?;
+        demand(word.kind == Kind::LBlock, WordFault::NotDue(at))?;
         demand(
             (word.payload.set() as usize) < self.sets,
-            SheetFault::Word(WordFault::OutOfLimit(at)),
+            WordFault::OutOfLimit(at),
         )?;
-        demand(self.lblocks.len() < MOST_LBLOCKS, SheetFault::TooMany(at))
+        demand(!self.lblocks.is_full(), SheetFault::TooMany(at))
     }
 
     // Its second word.
@@ -196,14 +155,11 @@ impl Draft {
         word: Word,
         at: usize,
     ) -> Result<(), SheetFault>
-        requires { vec_len self.old.lblocks < 512 }
+        requires { length self.old.lblocks.list.items < 512 }
         ensures { Added (demand_one (one_of word.kind (COST ∷ [])) not_due at ∷ []) (add_lblock (items_of self.old) (lblock_of (length (items_of self.old).blocks - 1) (set_field first.0) (tag_field first.0) word.payload.0)) result (items_of self.new) }
     {
-        demand(
-            matches!(word.kind, Kind::Cost),
-            SheetFault::Word(WordFault::NotDue(at)),
-        )?;
-        self.lblocks.push_reserved(LBlock {
+        demand(word.kind == Kind::Cost, WordFault::NotDue(at))?;
+        self.lblocks.push(LBlock {
             block: self.blocks.len().saturating_sub(1),
             set: first.set() as usize,
             tag: first.tag(),

@@ -21,7 +21,13 @@ impl Draft {
         ensures found { Found (sheet_of (items_of self.now)) result out.new.items }
         ensures room { 4096 ≤ vec_capacity out.new }
     {
-        match traversal.find(self.sets, &self.blocks, &self.lblocks, &self.edges, out) {
+        match traversal.find(
+            self.sets,
+            self.blocks.as_slice(),
+            self.lblocks.as_slice(),
+            self.edges.as_slice(),
+            out,
+        ) {
             Ok(()) => Ok(()),
             Err(set) => Err(SheetFault::TooManyConflicts(set)),
         }

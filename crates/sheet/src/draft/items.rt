@@ -23,10 +23,7 @@ impl Draft {
         requires { Ready section (items_of self.old) }
         ensures { Turn section (items_of self.old) HEAD payload.0 at [] result (items_of self.new) }
     {
-        demand(
-            section.due(Kind::Head),
-            SheetFault::Word(WordFault::NotDue(at)),
-        )?;
+        demand(section.due(Kind::Head), WordFault::NotDue(at))?;
         self.head_word(payload, at)?;
         Ok(Some(Section::First))
     }
@@ -40,10 +37,7 @@ impl Draft {
         requires { Ready section (items_of self.old) }
         ensures { Turn section (items_of self.old) BLOCK payload.0 at [] result (items_of self.new) }
     {
-        demand(
-            section.due(Kind::Block),
-            SheetFault::Word(WordFault::NotDue(at)),
-        )?;
+        demand(section.due(Kind::Block), WordFault::NotDue(at))?;
         self.block_word(payload, at)?;
         Ok(Some(Section::LBlocks(payload.0 as usize)))
     }
@@ -57,10 +51,7 @@ impl Draft {
         requires { Ready section (items_of self.old) }
         ensures { Turn section (items_of self.old) EDGE payload.0 at [] result (items_of self.new) }
     {
-        demand(
-            section.due(Kind::Edge),
-            SheetFault::Word(WordFault::NotDue(at)),
-        )?;
+        demand(section.due(Kind::Edge), WordFault::NotDue(at))?;
         self.edge_word(payload, at)?;
         Ok(Some(Section::Edges))
     }
@@ -74,10 +65,7 @@ impl Draft {
         requires { Ready section (items_of self.old) }
         ensures { Turn section (items_of self.old) LOOP payload.0 at [] result (items_of self.new) }
     {
-        demand(
-            section.due(Kind::Loop),
-            SheetFault::Word(WordFault::NotDue(at)),
-        )?;
+        demand(section.due(Kind::Loop), WordFault::NotDue(at))?;
         let inside = self.loop_word(section, payload, at)?;
         Ok(Some(inside))
     }
@@ -107,10 +95,7 @@ impl Draft {
         requires { Ready section (items_of self.old) }
         ensures { Turn section (items_of self.old) FACT payload.0 at [] result (items_of self.new) }
     {
-        demand(
-            section.due(Kind::Fact),
-            SheetFault::Word(WordFault::NotDue(at)),
-        )?;
+        demand(section.due(Kind::Fact), WordFault::NotDue(at))?;
         self.fact_word(section, payload, at)?;
         Ok(Some(Section::Facts))
     }
@@ -125,10 +110,7 @@ impl Draft {
         requires { (Ready section (items_of self.now)) × (reader.now.at ≡ at + 1) }
         ensures { Turn section (items_of self.now) END payload.0 at (drop (at + 1) reader.now.words.now) result (items_of self.now) }
     {
-        demand(
-            section.due(Kind::End),
-            SheetFault::Word(WordFault::NotDue(at)),
-        )?;
+        demand(section.due(Kind::End), WordFault::NotDue(at))?;
         self.end_word(section, payload, at, reader)?;
         Ok(None)
     }

@@ -35,7 +35,7 @@ impl Sheet {
         ensures taken { items_in self.new ≡ items_of draft.old }
         ensures room { 4096 ≤ vec_capacity conflicts.new }
     {
-        let used = count_used(draft.sets, &draft.lblocks);
+        let used = count_used(draft.sets, draft.lblocks.as_slice());
         std::mem::swap(&mut self.draft, draft);
         std::mem::swap(&mut self.conflicts, conflicts);
         self.used = used;
