@@ -2,15 +2,16 @@
 use Rattle.std.specs.Prelude.{◌≡◌, ℕ, suc, Bool, true, false, not, ◌&&◌, List, [], ◌∷◌, length, Ok, Err, vec_items, Result, ◌==◌, nat_eq, nat_lt}
 use Rattle.std.proofs.Math.Option.{none, some}
 use Rattle.words.specs.Lists.{any}
-use Rattle.words.specs.Words.{upper, lower, i_field, j_field, Check, demand, first_failing, empty, too_many, wrong_loop, wrong_fact, wrong_end}
+use Rattle.words.specs.Words.{upper, lower, i_field, j_field, Check, demand, first_failing, empty, too_many, wrong_loop, wrong_fact, wrong_end, not_due}
 use Rattle.sheet.specs.declared.draft.Draft.{Draft}
 use Rattle.sheet.specs.declared.fault.SheetFault.{SheetFault}
 use Rattle.sheet.specs.Faults.{sheet_refusal}
+use Rattle.sheet.specs.declared.parts.Loop.{Loop as Header}
 use Rattle.sheet.specs.declared.section.Section.{Section}
 use Rattle.sheet.specs.declared.section.Section.TheVariants.{Head, First, LBlocks, Blocks, Edges, Loop as InLoop, Facts}
 use Rattle.sheet.specs.Walk.{edge}
 use Rattle.sheet.specs.ReadSheet.{same_edge}
-use Rattle.sheet.specs.Drafts.{Items, backs_of, add_loop}
+use Rattle.sheet.specs.Drafts.{Items, backs_of}
 
 abbrev pub items_of : Draft → Items
 items_of d = record {
@@ -42,11 +43,32 @@ loop_checks s I p i =
     ∷ demand (nat_lt (upper p) (length I.blocks)) wrong_loop i
     ∷ demand (not (any (λ l. nat_eq (upper p) l.header) I.loops)) wrong_loop i ∷ []
 
-abbrev pub back_checks : ℕ → ℕ → Items → ℕ → ℕ → List Check
-back_checks n h I p i =
+-- outside a loop no BACK is due
+abbrev pub back_checks : Section → Items → ℕ → ℕ → List Check
+back_checks Head I p i = demand false not_due i ∷ []
+back_checks First I p i = demand false not_due i ∷ []
+back_checks (LBlocks n) I p i = demand false not_due i ∷ []
+back_checks Blocks I p i = demand false not_due i ∷ []
+back_checks Edges I p i = demand false not_due i ∷ []
+back_checks (InLoop n h) I p i =
     demand (nat_lt (length I.backs) 64) too_many i
     ∷ demand (any (same_edge (edge p h)) I.edges) wrong_loop i
     ∷ demand (not (any (nat_eq p) (backs_of I.backs n))) wrong_loop i ∷ []
+back_checks Facts I p i = demand false not_due i ∷ []
+
+-- the number of the loop that is being read
+abbrev pub number_in : Section → ℕ
+number_in Head = 0
+number_in First = 0
+number_in (LBlocks n) = 0
+number_in Blocks = 0
+number_in Edges = 0
+number_in (InLoop n h) = n
+number_in Facts = 0
+
+-- the loop that a LOOP begins
+abbrev pub header_of : ℕ → Header
+header_of p = record { header = upper p; bound = lower p }
 
 abbrev pub fact_checks : Section → Items → ℕ → ℕ → List Check
 fact_checks s I p i =
@@ -67,15 +89,10 @@ abbrev pub Demanded : {F : Type 0} → Bool → F → Result (Unit {0}) F → Ty
 Demanded t fault (Ok u) = t ≡ true
 Demanded t fault (Err e) = (t ≡ false) × (e ≡ fault)
 
--- The checks pass and the items are those; or the first check that fails gives the fault.
-abbrev pub Added : List Check → Items → Result (Unit {0}) SheetFault → Items → Type 0
-Added cs new (Ok u) after = (first_failing cs ≡ none) × (after ≡ new)
-Added cs new (Err e) after = first_failing cs ≡ some (sheet_refusal e)
-
--- The same where the word begins a loop.
-abbrev pub Opened : List Check → Items → ℕ → Result Section SheetFault → Items → Type 0
-Opened cs I p (Ok s) after = (first_failing cs ≡ none) × (s ≡ InLoop (length I.loops) (upper p)) × (after ≡ add_loop I (record { header = upper p; bound = lower p }))
-Opened cs I p (Err e) after = first_failing cs ≡ some (sheet_refusal e)
+-- The checks pass, the items are those, and so is what is answered; or the first check that fails gives the fault.
+abbrev pub Added : {A : Type 0} → List Check → Items → A → Result A SheetFault → Items → Type 0
+Added cs new x (Ok y) after = (first_failing cs ≡ none) × (y ≡ x) × (after ≡ new)
+Added cs new x (Err e) after = first_failing cs ≡ some (sheet_refusal e)
 
 -- The checks pass, or the first that fails gives the fault.
 abbrev pub Tried : {A : Type 0} → List Check → Result A SheetFault → Type 0

@@ -16,5 +16,6 @@ pub struct Draft {
 mod checks;
 mod conflicts;
 mod items;
+mod placed;
 mod read;
 mod scan;

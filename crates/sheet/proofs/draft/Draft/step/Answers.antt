@@ -20,6 +20,6 @@ returns c =
     let f = c.in_ok-word.ensures in record {
       same = f.same;
       stepped = word_steps c.args.reader.now.words.now c.args.section (items_of c.args.self.now) (items_of c.item.new.self) c.args.reader.now.at f.takes.0 c.requires
-          c.next.new.self.words.now c.item.result c.in_ok-word.word.kind c.in_ok-word.word.payload.0 c.place-at.result c.next.new.self.at
-          (ap (λ r. r.now) f.same) f.takes.1.0 f.takes.1.1 c.place-at.ensures f.takes.2 c.item.ensures;
+          c.next.new.self.words.now c.item.result c.new.result.kind c.new.result.payload.0 c.new.result.at c.next.new.self.at
+          (ap (λ r. r.now) f.same) (c.new.ensures.0 ∙ f.takes.1.0) (ap (λ p. p.0) c.new.ensures.1 ∙ f.takes.1.1) (c.new.ensures.2 ∙ c.place-at.ensures) f.takes.2 c.item.ensures;
     }
