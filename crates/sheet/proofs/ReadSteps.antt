@@ -1,5 +1,5 @@
 -- For code: a turn of a reader's loop, whose invariant is that reading on from here answers what reading from the start does. Assumes nothing.
-use Rattle.std.proofs.Common.{◌≡◌, ℕ, suc, ◌+◌, ◌<◌, true, false, List, length, get_or, drop, sym, ap, ◌∙◌, arith}
+use Rattle.std.proofs.Common.{◌≡◌, ℕ, suc, ◌+◌, ◌<◌, ◌≤◌, true, false, List, length, get_or, drop, ap, ◌∙◌, arith}
 use mathlib.Core.Option.{none, some}
 use Rattle.std.proofs.lemmas.List.{drop_more, drop_all}
 use Rattle.sheet.specs.Kinds.{END, Refusal}
@@ -34,6 +34,6 @@ module _ (ws : List ℕ) (i : ℕ) (h : i < length ws) (st : sheet.State) where
       ∙ step_end (first_failing (sheet.demands st (get_or ws i 0) i (drop (i + 1) ws))) (same_kind (kind (get_or ws i 0)) END) (sheet.finished (sheet.closed st.read (sheet.open_loop st.stand)))
       (sheet.read_from (sheet.next st.stand st.read (kind (get_or ws i 0)) (payload (get_or ws i 0))) (drop (i + 1) ws) (suc i)) e n
 
--- the list ends
-pub sheet_cut : (ws : List ℕ) (i : ℕ) (st : sheet.State) → length ws ≡ i → sheet.read_from st (drop i ws) i ≡ refused (refusal ends_early (length ws))
-sheet_cut ws i st e = ap (λ z. sheet.read_from st z i) (drop_all i ws (omega arith)) ∙ ap (λ n. refused (refusal ends_early n)) (sym e)
+-- no word is left
+pub none_left : (ws : List ℕ) (st : sheet.State) (i : ℕ) → length ws ≤ i → sheet.read_from st (drop i ws) i ≡ refused (refusal ends_early i)
+none_left ws st i l = ap (λ z. sheet.read_from st z i) (drop_all i ws l)

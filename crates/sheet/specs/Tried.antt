@@ -1,8 +1,9 @@
 -- For the code that reads a sheet: its items as lists, and what trying a word answers. Assumes nothing.
-use Rattle.std.specs.Prelude.{◌≡◌, ℕ, suc, Bool, true, false, not, ◌&&◌, List, [], ◌∷◌, length, Ok, Err, vec_items, Result, ◌==◌, nat_eq, nat_lt}
+use Rattle.std.specs.Prelude.{◌≡◌, ℕ, suc, ◌-◌, Bool, true, false, not, ◌&&◌, List, [], ◌∷◌, length, Ok, Err, vec_items, Result, ◌==◌, nat_eq, nat_lt}
 use Rattle.std.proofs.Math.Option.{none, some}
 use Rattle.words.specs.Lists.{any}
-use Rattle.words.specs.Words.{upper, lower, i_field, j_field, Check, demand, first_failing, empty, too_many, wrong_loop, wrong_fact, wrong_end, not_due}
+use Rattle.words.specs.Words.{one_of, set_field, tag_field, upper, lower, i_field, j_field, Check, demand, first_failing, empty, too_many, wrong_loop, wrong_fact, wrong_end, not_due}
+use Rattle.sheet.specs.Kinds.{Kind, LBLOCK, COST}
 use Rattle.sheet.specs.declared.draft.Draft.{Draft}
 use Rattle.sheet.specs.declared.fault.SheetFault.{SheetFault}
 use Rattle.sheet.specs.Faults.{sheet_refusal}
@@ -10,8 +11,8 @@ use Rattle.sheet.specs.declared.parts.Loop.{Loop as Header}
 use Rattle.sheet.specs.declared.section.Section.{Section}
 use Rattle.sheet.specs.declared.section.Section.TheVariants.{Head, First, LBlocks, Blocks, Edges, Loop as InLoop, Facts}
 use Rattle.sheet.specs.Walk.{edge}
-use Rattle.sheet.specs.ReadSheet.{same_edge}
-use Rattle.sheet.specs.Drafts.{Items, backs_of}
+use Rattle.sheet.specs.ReadSheet.{same_edge, checks, lblock_of}
+use Rattle.sheet.specs.Drafts.{Items, sheet_of, backs_of, add_lblock}
 
 abbrev pub items_of : Draft → Items
 items_of d = record {
@@ -35,6 +36,17 @@ whole_in Edges I = true
 whole_in (InLoop n h) I =
     any (λ b. nat_eq b.owner n) I.backs && any (λ e. (e.to == h) && not (any (nat_eq e.from) (backs_of I.backs n))) I.edges
 whole_in Facts I = true
+
+-- the two words of an l-block
+abbrev pub lblock_checks : Items → Kind → ℕ → ℕ → List Check
+lblock_checks I k p i = demand (one_of k (LBLOCK ∷ [])) not_due i ∷ checks (sheet_of I) none LBLOCK p i []
+
+abbrev pub cost_checks : Kind → ℕ → List Check
+cost_checks k i = demand (one_of k (COST ∷ [])) not_due i ∷ []
+
+-- the items with the l-block that they are
+abbrev pub pair_lblock : Items → ℕ → ℕ → Items
+pair_lblock I p q = add_lblock I (lblock_of (length I.blocks - 1) (set_field p) (tag_field p) q)
 
 abbrev pub loop_checks : Section → Items → ℕ → ℕ → List Check
 loop_checks s I p i =

@@ -1,12 +1,12 @@
 // What each word of a sheet must meet, and the item that it adds. The checks are tried in order, the lower number first.
 ghost use Rattle.std.specs.Prelude.{◌≡◌, ◌+◌, ◌-◌, ◌<◌, true, false, [], ◌∷◌, length, drop, Some, None, Ok, Err};
 ghost use Rattle.std.proofs.Math.Option.{none};
-ghost use Rattle.words.specs.Words.{one_of, set_field, tag_field, upper, not_due, demand as demand_one};
+ghost use Rattle.words.specs.Words.{upper};
 ghost use Rattle.sheet.specs.declared.section.Section.TheVariants.{First, LBlocks, Edges, Loop as InLoop, Facts};
-ghost use Rattle.sheet.specs.Kinds.{HEAD, BLOCK, LBLOCK, COST, EDGE};
-ghost use Rattle.sheet.specs.ReadSheet.{checks, lblock_of};
-ghost use Rattle.sheet.specs.Drafts.{sheet_of, add_head, add_block, add_lblock, add_edge, add_loop, add_back, add_fact};
-ghost use Rattle.sheet.specs.Tried.{Demanded, Added, Tried, items_of, header_of, number_in, loop_checks, back_checks, fact_checks, end_checks};
+ghost use Rattle.sheet.specs.Kinds.{HEAD, BLOCK, EDGE};
+ghost use Rattle.sheet.specs.ReadSheet.{checks};
+ghost use Rattle.sheet.specs.Drafts.{sheet_of, add_head, add_block, add_edge, add_loop, add_back, add_fact};
+ghost use Rattle.sheet.specs.Tried.{Demanded, Added, Tried, items_of, header_of, number_in, pair_lblock, lblock_checks, cost_checks, loop_checks, back_checks, fact_checks, end_checks};
 
 use crate::draft::Draft;
 use crate::draft::placed::PlacedWord;
@@ -145,7 +145,7 @@ impl Draft {
 
     // The first word of an l-block.
     pub(crate) fn lblock_word(&self, word: PlacedWord) -> Result<(), SheetFault>
-        ensures { Tried (demand_one (one_of word.kind (LBLOCK ∷ [])) not_due word.at ∷ checks (sheet_of (items_of self.now)) none LBLOCK word.payload.0 word.at []) result }
+        ensures { Tried (lblock_checks (items_of self.now) word.kind word.payload.0 word.at) result }
     {
         demand(word.kind == Kind::LBlock, WordFault::NotDue(word.at))?;
         demand(
@@ -158,7 +158,7 @@ impl Draft {
     // Its second word.
     pub(crate) fn cost_word(&mut self, first: Payload, word: PlacedWord) -> Result<(), SheetFault>
         requires { length self.old.lblocks.list.items < 512 }
-        ensures { Added (demand_one (one_of word.kind (COST ∷ [])) not_due word.at ∷ []) (add_lblock (items_of self.old) (lblock_of (length (items_of self.old).blocks - 1) (set_field first.0) (tag_field first.0) word.payload.0)) tt result (items_of self.new) }
+        ensures { Added (cost_checks word.kind word.at) (pair_lblock (items_of self.old) first.0 word.payload.0) tt result (items_of self.new) }
     {
         demand(word.kind == Kind::Cost, WordFault::NotDue(word.at))?;
         self.lblocks.push(LBlock {

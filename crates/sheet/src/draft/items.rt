@@ -1,7 +1,7 @@
 // One word after another: whether its kind is due, its checks, and the section that it leads to.
-ghost use Rattle.std.specs.Prelude.{◌≡◌, ◌+◌, ◌^◌, ◌<◌, length, drop};
+ghost use Rattle.std.specs.Prelude.{◌≡◌, ◌+◌, drop};
 ghost use Rattle.sheet.specs.declared.section.Section.TheVariants.{LBlocks};
-ghost use Rattle.sheet.specs.Sections.{Ready, Turn, Went, Stepped, Cut, Paired, lacking_in};
+ghost use Rattle.sheet.specs.Sections.{Ready, Turn, Went, Stepped, lacking_in};
 ghost use Rattle.sheet.specs.Tried.{items_of};
 
 use crate::draft::Draft;
@@ -11,7 +11,7 @@ use crate::fault::SheetFault;
 use crate::section::Section;
 use words::reader::Reader;
 use words::refusal::WordFault;
-use words::word::{Kind, Word};
+use words::word::Kind;
 
 impl Draft {
     // A word that is not of an l-block.
@@ -39,45 +39,16 @@ impl Draft {
         }
     }
 
-    // The two words of an l-block.
-    fn lblock_words(&mut self, first: u32, second: u32, at: usize) -> Result<(), SheetFault>
-        requires { at + 1 < 2 ^ 64 }
-        ensures { Paired (items_of self.old) first second at result (items_of self.new) }
-    {
-        let lblock = PlacedWord::new(Word::from(first), at);
-        self.lblock_word(lblock)?;
-        let cost = PlacedWord::new(Word::from(second), at + 1);
-        self.cost_word(lblock.payload, cost)
-    }
-
-    // The fault where fewer than two words are left for an l-block.
-    fn cut_lblock(&self, words: &[u32], at: usize) -> SheetFault
-        requires few { length words.now < 2 }
-        requires fits { at + length words.now < 2 ^ 64 }
-        ensures { Cut (items_of self.now) words.now at result }
-    {
-        let Some(first) = words.first() else {
-            return WordFault::EndsEarly(at).into();
-        };
-        match self.lblock_word(PlacedWord::new(Word::from(*first), at)) {
-            Ok(()) => WordFault::EndsEarly(at + 1).into(),
-            Err(fault) => fault,
-        }
-    }
-
     // An l-block, which is two words.
     fn lblock(&mut self, lacking: usize, reader: &mut Reader) -> Result<Section, SheetFault>
         requires { Ready (LBlocks lacking) (items_of self.old) }
         ensures same { reader.new.words ≡ reader.old.words }
         ensures went { Went reader.old.words.now (LBlocks lacking) (items_of self.old) reader.old.at result (items_of self.new) reader.new.at }
     {
-        let at = reader.place();
-        let words = reader.rest();
-        let [first, second, rest @ ..] = words else {
-            return Err(self.cut_lblock(words, at));
-        };
-        self.lblock_words(*first, *second, at)?;
-        reader.skip(words.len() - rest.len());
+        let first = PlacedWord::next(reader)?;
+        self.lblock_word(first)?;
+        let second = PlacedWord::next(reader)?;
+        self.cost_word(first.payload, second)?;
         Ok(Section::past_lblock(lacking))
     }
 
@@ -95,8 +66,7 @@ impl Draft {
             let next = self.lblock(lacking, reader)?;
             return Ok(Some(next));
         }
-        let at = reader.place();
-        let word = reader.next()?;
-        self.item(section, PlacedWord::new(word, at), reader)
+        let word = PlacedWord::next(reader)?;
+        self.item(section, word, reader)
     }
 }

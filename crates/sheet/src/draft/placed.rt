@@ -1,7 +1,10 @@
 // A word at its place in the list.
 ghost use Rattle.std.specs.Prelude.{◌≡◌};
+ghost use Rattle.sheet.specs.Placed.{TakesPlaced};
 
-use words::word::{Kind, Payload, Word};
+use words::reader::Reader;
+use words::refusal::WordFault;
+use words::word::{Kind, Payload};
 
 #[derive(Clone, Copy, PartialEq, Eq, Debug)]
 pub(crate) struct PlacedWord {
@@ -11,13 +14,17 @@ pub(crate) struct PlacedWord {
 }
 
 impl PlacedWord {
-    pub(crate) fn new(word: Word, at: usize) -> PlacedWord
-        ensures { (result.kind ≡ word.kind) × (result.payload ≡ word.payload) × (result.at ≡ at) }
+    // The next word, or that the list has ended.
+    pub(crate) fn next(reader: &mut Reader) -> Result<PlacedWord, WordFault>
+        ensures same { reader.new.words ≡ reader.old.words }
+        ensures takes { TakesPlaced reader.old.words.now reader.old.at result reader.new.at }
     {
-        PlacedWord {
+        let at = reader.place();
+        let word = reader.next()?;
+        Ok(PlacedWord {
             kind: word.kind,
             payload: word.payload,
             at,
-        }
+        })
     }
 }

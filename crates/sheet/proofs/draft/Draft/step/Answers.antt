@@ -4,7 +4,8 @@ use Rattle.words.specs.Words.{refused}
 use Rattle.words.specs.Faults.{word_refusal}
 use Rattle.sheet.specs.Sections.{state_of}
 use Rattle.sheet.specs.Tried.{items_of}
-use Rattle.sheet.proofs.Stepping.{word_steps, none_left}
+use Rattle.sheet.proofs.ReadSteps.{none_left}
+use Rattle.sheet.proofs.Stepping.{word_steps}
 use Rattle.sheet.proofs.draft.Draft.step.Goals as goal
 
 pub returns-in_err-word : goal.returns-in_err-word
@@ -19,7 +20,6 @@ pub returns : goal.returns
 returns c =
     let f = c.in_ok-word.ensures in record {
       same = f.same;
-      stepped = word_steps c.args.reader.now.words.now c.args.section (items_of c.args.self.now) (items_of c.item.new.self) c.args.reader.now.at f.takes.0 c.requires
-          c.next.new.self.words.now c.item.result c.new.result.kind c.new.result.payload.0 c.new.result.at c.next.new.self.at
-          (ap (λ r. r.now) f.same) (c.new.ensures.0 ∙ f.takes.1.0) (ap (λ p. p.0) c.new.ensures.1 ∙ f.takes.1.1) (c.new.ensures.2 ∙ c.place-at.ensures) f.takes.2 c.item.ensures;
+      stepped = word_steps c.args.reader.now.words.now c.args.section (items_of c.args.self.now) (items_of c.item.new.self) c.args.reader.now.at c.requires
+          c.next.new.reader.words.now c.item.result c.in_ok-word.word c.next.new.reader.at (ap (λ r. r.now) f.same) f.takes c.item.ensures;
     }
