@@ -11,6 +11,7 @@ ghost use Rattle.sheet.specs.Tried.{Demanded, Added, Tried, items_of, header_of,
 use crate::draft::Draft;
 use crate::draft::placed::PlacedWord;
 use crate::fault::SheetFault;
+use crate::limits::{MOST_LBLOCKS_IN_BLOCK, MOST_SETS};
 use crate::parts::{BackEdge, Block, Edge, Fact, LBlock, Loop};
 use crate::section::Section;
 use words::reader::Reader;
@@ -30,7 +31,10 @@ impl Draft {
         ensures { Added (checks (sheet_of (items_of self.old)) none HEAD word.payload.0 word.at []) (add_head (items_of self.old) word.payload.0) (Some First) result (items_of self.new) }
     {
         let sets = word.payload.0 as usize;
-        demand(1 <= sets && sets <= 64, WordFault::OutOfLimit(word.at))?;
+        demand(
+            1 <= sets && sets <= MOST_SETS,
+            WordFault::OutOfLimit(word.at),
+        )?;
         self.sets = sets;
         Ok(Some(Section::First))
     }
@@ -40,7 +44,7 @@ impl Draft {
     {
         let lblocks = word.payload.0 as usize;
         demand(
-            1 <= lblocks && lblocks <= 16,
+            1 <= lblocks && lblocks <= MOST_LBLOCKS_IN_BLOCK,
             WordFault::OutOfLimit(word.at),
         )?;
         demand(!self.blocks.is_full(), SheetFault::TooMany(word.at))?;
