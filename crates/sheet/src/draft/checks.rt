@@ -32,7 +32,7 @@ impl Draft {
     {
         let sets = word.payload.0 as usize;
         demand(
-            1 <= sets && sets <= MOST_SETS,
+            (1..=MOST_SETS).contains(&sets),
             WordFault::OutOfLimit(word.at),
         )?;
         self.sets = sets;
@@ -44,7 +44,7 @@ impl Draft {
     {
         let lblocks = word.payload.0 as usize;
         demand(
-            1 <= lblocks && lblocks <= MOST_LBLOCKS_IN_BLOCK,
+            (1..=MOST_LBLOCKS_IN_BLOCK).contains(&lblocks),
             WordFault::OutOfLimit(word.at),
         )?;
         demand(!self.blocks.is_full(), SheetFault::TooMany(word.at))?;
