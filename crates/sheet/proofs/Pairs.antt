@@ -1,5 +1,5 @@
 -- For code: the two words of an l-block, and how far the words lead. Assumes nothing.
-use Rattle.std.proofs.Common.{◌≡◌, ℕ, ◌+◌, ◌-◌, ◌<◌, Bool, true, false, cond, ltb, List, [], ◌∷◌, ◌++◌, length, get_or, drop, Ok, Result, sym, refl, ap, ap₂, ◌∙◌, subst, ⊎_elim, arith}
+use Rattle.std.proofs.Common.{◌≡◌, ℕ, ◌+◌, ◌-◌, ◌<◌, Bool, true, false, cond, ltb, List, [], ◌∷◌, ◌++◌, length, get_or, drop, Some, Ok, Result, sym, refl, ap, ap₂, ◌∙◌, subst, ⊎_elim, arith}
 use mathlib.Core.Option.{Option, none, some}
 use Rattle.std.proofs.lemmas.Bool.{ltb-true, ltb-false}
 use Rattle.words.specs.Words.{kind, payload, one_of, same_kind, set_field, tag_field, Check, demand, first_failing, refusal, not_due}
@@ -11,7 +11,7 @@ use Rattle.sheet.specs.declared.section.Section.TheVariants.{LBlocks, Blocks}
 use Rattle.sheet.specs.ReadSheet.{at_lblock, at_cost, at_blocks, State, stands, checks, demands, next, lacks, lblock_of}
 use Rattle.sheet.specs.BlockTable.{Laid}
 use Rattle.sheet.specs.Drafts.{Items, sheet_of, add_lblock}
-use Rattle.sheet.specs.Sections.{state_of, Ready, Goes, stays, takes, section_past_lblock, Went}
+use Rattle.sheet.specs.Sections.{state_of, Ready, Goes, stays, takes, section_past_lblock, Stepped}
 use Rattle.words.specs.declared.refusal.WordFault.{WordFault}
 use Rattle.sheet.specs.declared.draft.placed.PlacedWord.{PlacedWord}
 use Rattle.sheet.specs.Placed.{IsAt, TakesPlaced}
@@ -114,11 +114,11 @@ module _ (I : Items) (n : ℕ) (ws : List ℕ) (i : ℕ) (v : PlacedWord) (j : �
     later r k u = subst (λ j. TakesPlaced ws j r k) t.2 (subst (λ vs. TakesPlaced vs j r k) same u)
 
     module _ (w : PlacedWord) (k : ℕ) (u : TakesPlaced vs j (Ok w) k) where
-      pub pair_went : (J : Items) (s : Section) → Ready (LBlocks n) I → first_failing (cost_checks w.kind w.at) ≡ none → J ≡ pair_lblock I v.payload.0 w.payload.0 → s ≡ section_past_lblock n → Went ws (LBlocks n) I i (Ok s) J k
+      pub pair_went : (J : Items) (s : Section) → Ready (LBlocks n) I → first_failing (cost_checks w.kind w.at) ≡ none → J ≡ pair_lblock I v.payload.0 w.payload.0 → s ≡ section_past_lblock n → Stepped ws (LBlocks n) I i (Ok (Some s)) J k
       pair_went J s r g e q =
           let x = later (Ok w) k u in
           let fits : J ≡ pair_lblock I (payload (get_or ws i 0)) (payload (get_or ws (i + 1) 0)) = e ∙ ap₂ (pair_lblock I) t.1.1 x.1.1 in
-          subst (λ s. Went ws (LBlocks n) I i (Ok s) J k) (sym q) (
+          subst (λ s. Stepped ws (LBlocks n) I i (Ok (Some s)) J k) (sym q) (
             subst (Goes ws (state_of (LBlocks n) I) i (state_of (section_past_lblock n) J)) (sym x.2)
                 (two_words I n ws i J x.0 passed (placed (λ k p a. first_failing (cost_checks k a) ≡ none) ws (i + 1) w x.1 g) fits),
             ready_past I n J (set_field v.payload.0) (tag_field v.payload.0) w.payload.0 r e,

@@ -15,7 +15,7 @@ use Rattle.sheet.specs.SheetWords.{PartsFit}
 use Rattle.sheet.specs.BlockTable.{Laid}
 use Rattle.sheet.proofs.ReadSheet.{Holds, goes, closing}
 use Rattle.sheet.specs.Drafts.{Items, sheet_of}
-use Rattle.sheet.specs.Sections.{no_items, state_of, Ready, lacking_in, Turn, Went, Stepped, Goes, stays, takes}
+use Rattle.sheet.specs.Sections.{no_items, state_of, Ready, lacking_in, Turn, Stepped, Goes, stays, takes}
 use Rattle.sheet.proofs.Laid.{laid_none}
 use Rattle.sheet.proofs.Turns.{closed_is}
 use Rattle.sheet.specs.declared.draft.placed.PlacedWord.{PlacedWord}
@@ -35,14 +35,6 @@ pub word_steps : (ws : List ℕ) (s : Section) (I J : Items) (i : ℕ) (ready : 
 word_steps ws s I J i ready vs r w j v f t =
     subst (Stepped ws s I i r J) (sym f.2)
     (turned ws s I J i f.0 ready r (placed (λ k p a. Turn s I k p a (drop (a + 1) ws) r J) ws i w f.1 (subst (λ vs. Turn s I w.kind w.payload.0 w.at (drop (w.at + 1) vs) r J) v t)))
-
--- the two words of an l-block
-module _ (ws : List ℕ) (s : Section) (n : ℕ) (I J : Items) (i j : ℕ) (e : s ≡ LBlocks n) where
-  pub pair_steps : (t : Section) → Went ws (LBlocks n) I i (Ok t) J j → Stepped ws s I i (Ok (Some t)) J j
-  pair_steps t f = subst (λ s. Stepped ws s I i (Ok (Some t)) J j) (sym e) f
-
-  pub pair_breaks : (x : SheetFault) → Went ws (LBlocks n) I i (Err x) J j → Stepped ws s I i (Err x) J j
-  pair_breaks x f = subst (λ s. Stepped ws s I i (Err x) J j) (sym e) f
 
 pub none_lacks : (s : Section) → ((n : ℕ) → s ≡ LBlocks n → ⊥) → lacking_in s ≡ 0
 none_lacks Head h = refl

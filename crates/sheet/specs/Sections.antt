@@ -88,12 +88,7 @@ Turn s I k p i rest (Err e) J = first_failing (tried s I k p i rest) ≡ some (s
 abbrev pub section_past_lblock : ℕ → Section
 section_past_lblock n = cond (nat_lt 1 n) (LBlocks (n - 1)) Blocks
 
--- Reading on from place i: the words lead to another state, or the fault is the answer.
-abbrev pub Went : List ℕ → Section → Items → ℕ → Result Section SheetFault → Items → ℕ → Type 0
-Went ws s I i (Ok t) J j = Goes ws (state_of s I) i (state_of t J) j × Ready t J × (i < j) × (j ≤ length ws)
-Went ws s I i (Err e) J j = read_from (state_of s I) (drop i ws) i ≡ refused (sheet_refusal e)
-
--- The same, or END is read and the items stay.
+-- Reading on from place i: the words lead to another state, or END is read and the items stay, or the fault is the answer.
 abbrev pub Stepped : List ℕ → Section → Items → ℕ → Result (Maybe Section) SheetFault → Items → ℕ → Type 0
 Stepped ws s I i (Ok (Some t)) J j = Goes ws (state_of s I) i (state_of t J) j × Ready t J × (i < j) × (j ≤ length ws)
 Stepped ws s I i (Ok None) J j =

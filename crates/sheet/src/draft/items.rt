@@ -1,7 +1,7 @@
 // One word after another: whether its kind is due, its checks, and the section that it leads to.
 ghost use Rattle.std.specs.Prelude.{◌≡◌, ◌+◌, drop};
 ghost use Rattle.sheet.specs.declared.section.Section.TheVariants.{LBlocks};
-ghost use Rattle.sheet.specs.Sections.{Ready, Turn, Went, Stepped, lacking_in};
+ghost use Rattle.sheet.specs.Sections.{Ready, Turn, Stepped, lacking_in};
 ghost use Rattle.sheet.specs.Tried.{items_of};
 
 use crate::draft::Draft;
@@ -40,16 +40,16 @@ impl Draft {
     }
 
     // An l-block, which is two words.
-    fn lblock(&mut self, lacking: usize, reader: &mut Reader) -> Result<Section, SheetFault>
+    fn lblock(&mut self, lacking: usize, reader: &mut Reader) -> Result<Option<Section>, SheetFault>
         requires { Ready (LBlocks lacking) (items_of self.old) }
         ensures same { reader.new.words ≡ reader.old.words }
-        ensures went { Went reader.old.words.now (LBlocks lacking) (items_of self.old) reader.old.at result (items_of self.new) reader.new.at }
+        ensures stepped { Stepped reader.old.words.now (LBlocks lacking) (items_of self.old) reader.old.at result (items_of self.new) reader.new.at }
     {
         let first = PlacedWord::next(reader)?;
         self.lblock_word(first)?;
         let second = PlacedWord::next(reader)?;
         self.cost_word(first.payload, second)?;
-        Ok(Section::past_lblock(lacking))
+        Ok(Some(Section::past_lblock(lacking)))
     }
 
     // The next item, or the end of the sheet.
@@ -63,8 +63,7 @@ impl Draft {
         ensures stepped { Stepped reader.old.words.now section (items_of self.old) reader.old.at result (items_of self.new) reader.new.at }
     {
         if let Section::LBlocks(lacking) = section {
-            let next = self.lblock(lacking, reader)?;
-            return Ok(Some(next));
+            return self.lblock(lacking, reader);
         }
         let word = PlacedWord::next(reader)?;
         self.item(section, word, reader)
