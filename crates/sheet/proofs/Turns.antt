@@ -7,11 +7,11 @@ use Rattle.std.proofs.lemmas.List.Elements.{filter-append}
 use Rattle.std.proofs.ByRecursion.{All-push, All-weaker}
 use Rattle.std.proofs.lemmas.List.Sums.{sum_by_push}
 use Rattle.std.proofs.lemmas.Bool.{eq-eqb, ne_eqb, false≢true}
-use Rattle.words.proofs.Checks.{fails, passes}
+use Rattle.words.proofs.Checks.{passes}
 use Rattle.words.proofs.Words.{all_hold, within_true}
 use Rattle.words.specs.Lists.{any}
-use Rattle.words.specs.Words.{upper, lower, i_field, j_field, empty, within, one_of, same_kind, refusal, Check, demand, first_failing, not_due, out_of_limit, too_many, wrong_loop, wrong_fact, wrong_end}
-use Rattle.sheet.specs.Kinds.{Kind, HEAD, BLOCK, LBLOCK, EDGE, LOOP, BACK, FACT, END, Refusal}
+use Rattle.words.specs.Words.{upper, lower, i_field, j_field, empty, within, one_of, same_kind, Check, demand, first_failing, not_due, out_of_limit, too_many, wrong_loop, wrong_fact, wrong_end}
+use Rattle.sheet.specs.Kinds.{Kind, BLOCK, LBLOCK, EDGE, LOOP, BACK, FACT, END, Refusal}
 use Rattle.sheet.specs.declared.parts.BackEdge.{BackEdge}
 use Rattle.sheet.specs.declared.parts.Loop.{Loop as Header}
 use Rattle.sheet.specs.declared.section.Section.{Section}
@@ -23,7 +23,7 @@ use Rattle.sheet.specs.ReadSheet.{loop_of as spec_loop}
 use Rattle.sheet.specs.BlockTable.{Laid}
 use Rattle.sheet.specs.declared.fault.SheetFault.{SheetFault}
 use Rattle.sheet.specs.Faults.{sheet_refusal}
-use Rattle.sheet.specs.Drafts.{Items, sheet_of, backs_of, loop_of, loops_from, add_head, add_block, add_edge, add_loop, add_back, add_fact}
+use Rattle.sheet.specs.Drafts.{Items, sheet_of, backs_of, loop_of, loops_from, add_block, add_edge, add_loop, add_back, add_fact}
 use Rattle.sheet.specs.Sections.{Ready, IsOpen, state_of, trial, before_loop, no_header, due_in, lacking_in, tried, Turn}
 use Rattle.sheet.specs.Tried.{Added, whole_in, header_of, number_in, loop_checks, back_checks, fact_checks, end_checks}
 use Rattle.sheet.proofs.Drafts.{some_back}
@@ -163,9 +163,6 @@ back_trial (Loop n hd) I r d p i rest = ap₂
 back_trial Facts I r d p i rest = absurd (false≢true d)
 
 -- the items that a word adds are ready
-ready_head : (I : Items) (p : ℕ) → Ready Head I → Ready First (add_head I p)
-ready_head I p r = record { is_open = tt; owned = r.owned; counted = r.counted; laid = r.laid }
-
 ready_block : (s : Section) (I : Items) (p : ℕ) → lacking_in s ≡ 0 → Ready s I → 1 ≤ p → Ready (LBlocks p) (add_block I p)
 ready_block s I p z r l = record {
   is_open = l;
@@ -218,25 +215,13 @@ ready_back n hd I p r = record {
         ∙ sum_by_push (λ l. length l.backs) (loops_from bs 0 (take n I.loops)) (loop_of bs (0 + length (take n I.loops)) (get_or I.loops n no_header))
         ∙ ap (λ k. sum_by (λ l. length l.backs) (loops_from bs 0 (take n I.loops)) + length (backs_of bs k)) (omega (arith, before_length I n r.is_open.0))
 
--- the word is due, or not
+-- a word that is due
 module _ (s : Section) (I : Items) (k : Kind) (p i : ℕ) (rest : List ℕ) where
-  pub not_due_here : one_of k (due_in s) ≡ false → first_failing (tried s I k p i rest) ≡ some (refusal not_due i)
-  not_due_here e = fails (one_of k (due (state_of s I).stand)) not_due i (trial s I k p i rest) (ap (one_of k) (due_is s I) ∙ e)
-
   pub due_here : (o : Option Refusal) → one_of k (due_in s) ≡ true → first_failing (trial s I k p i rest) ≡ o → first_failing (tried s I k p i rest) ≡ o
   due_here o e h = passes (one_of k (due (state_of s I).stand)) not_due i (trial s I k p i rest) o (ap (one_of k) (due_is s I) ∙ e) h
 
 -- a turn with each kind of word
 module _ (I : Items) (p i : ℕ) (rest : List ℕ) where
-  pub head_turn : (s : Section) → Ready s I → one_of HEAD (due_in s) ≡ true → first_failing (checks (sheet_of I) none HEAD p i []) ≡ none → Turn s I HEAD p i rest (Ok (Some First)) (add_head I p)
-  head_turn Head r d e = (due_here Head I HEAD p i rest none d e, refl, refl, ready_head I p r)
-  head_turn First r d e = absurd (false≢true d)
-  head_turn (LBlocks n) r d e = absurd (false≢true d)
-  head_turn Blocks r d e = absurd (false≢true d)
-  head_turn Edges r d e = absurd (false≢true d)
-  head_turn (Loop n h) r d e = absurd (false≢true d)
-  head_turn Facts r d e = absurd (false≢true d)
-
   some_lblock : first_failing (checks (sheet_of I) none BLOCK p i []) ≡ none → 1 ≤ p
   some_lblock e = (within_true 1 16 p (all_hold (checks (sheet_of I) none BLOCK p i []) e).0).0
 
@@ -270,9 +255,6 @@ module _ (I : Items) (p i : ℕ) (rest : List ℕ) where
   none_lacking Edges k n d = refl
   none_lacking (Loop m h) k n d = refl
   none_lacking Facts k n d = refl
-
-  new_loop : Header
-  new_loop = record { header = upper p; bound = lower p }
 
   opened : Ready (Loop (length I.loops) (upper p)) (add_loop I (record { header = upper p; bound = lower p })) → AllByRecursion (λ b. b.owner < length I.loops) I.backs
       → stands (in_loop (spec_loop p)) (sheet_of I) ≡ state_of (Loop (length I.loops) (upper p)) (add_loop I (record { header = upper p; bound = lower p }))
