@@ -1,9 +1,15 @@
 -- The items that the code holds, and the sheet that they are. Assumes nothing.
 use Rattle.std.proofs.Common.{◌≡◌, ℕ, Bool, true, false, cond, not, ◌&&◌, ◌||◌, eqb, List, [], ◌∷◌, map, filter, refl, ap}
+use Rattle.std.specs.List.{list_any}
 use Rattle.words.specs.Lists.{any}
 use Rattle.words.specs.Words.{empty}
 use Rattle.sheet.specs.declared.parts.BackEdge.{BackEdge}
 use Rattle.sheet.specs.Drafts.{backs_of}
+
+-- the test over a list is the library's
+pub any_is : {A : Type 0} (p : A → Bool) (xs : List A) → any p xs ≡ list_any p xs
+any_is p [] = refl
+any_is p (x ∷ xs) = ap (λ b. p x || b) (any_is p xs)
 
 -- tests over the back edges of a loop
 module _ (s k : ℕ) where

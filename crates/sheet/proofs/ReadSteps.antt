@@ -1,9 +1,9 @@
 -- For code: a turn of a reader's loop, whose invariant is that reading on from here answers what reading from the start does. Assumes nothing.
-use Rattle.std.proofs.Common.{◌≡◌, ℕ, suc, ◌+◌, ◌<◌, true, false, List, length, get_or, drop, sym, ap, ◌∙◌, arith}
+use Rattle.std.proofs.Common.{◌≡◌, ℕ, suc, ◌+◌, ◌<◌, true, false, List, length, get_or, drop, ap, ◌∙◌, arith}
 use mathlib.Core.Option.{none, some}
-use Rattle.std.proofs.lemmas.List.{drop_more, drop_all}
+use Rattle.std.proofs.lemmas.List.{drop_more}
 use Rattle.sheet.specs.Kinds.{END, Refusal}
-use Rattle.words.specs.Words.{kind, payload, same_kind, refusal, ends_early, refused, first_failing}
+use Rattle.words.specs.Words.{kind, payload, same_kind, refused, first_failing}
 use Rattle.sheet.specs.ReadSheet as sheet
 use Rattle.words.proofs.Words.{step_on, step_end}
 use Rattle.sheet.proofs.FirstFault.{step_refuses}
@@ -33,7 +33,3 @@ module _ (ws : List ℕ) (i : ℕ) (h : i < length ws) (st : sheet.State) where
       ap (λ z. sheet.read_from st z i) (drop_more ws i 0 h)
       ∙ step_end (first_failing (sheet.demands st (get_or ws i 0) i (drop (i + 1) ws))) (same_kind (kind (get_or ws i 0)) END) (sheet.finished (sheet.closed st.read (sheet.open_loop st.stand)))
       (sheet.read_from (sheet.next st.stand st.read (kind (get_or ws i 0)) (payload (get_or ws i 0))) (drop (i + 1) ws) (suc i)) e n
-
--- the list ends
-pub sheet_cut : (ws : List ℕ) (i : ℕ) (st : sheet.State) → length ws ≡ i → sheet.read_from st (drop i ws) i ≡ refused (refusal ends_early (length ws))
-sheet_cut ws i st e = ap (λ z. sheet.read_from st z i) (drop_all i ws (omega arith)) ∙ ap (λ n. refused (refusal ends_early n)) (sym e)

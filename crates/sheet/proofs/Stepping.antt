@@ -1,12 +1,11 @@
 -- For code: a turn of the reader's loop, and what it comes to at the end. Assumes nothing.
-use Rattle.std.proofs.Common.{◌≡◌, ℕ, ◌+◌, ◌<◌, ◌≤◌, true, List, length, get_or, drop, Some, None, Ok, Err, Option as Maybe, Result, sym, refl, ap, ◌∙◌, subst, arith}
+use Rattle.std.proofs.Common.{◌≡◌, ℕ, ◌+◌, ◌<◌, true, List, length, get_or, drop, Some, None, Ok, Err, Option as Maybe, Result, sym, refl, ap, ◌∙◌, subst, arith}
 use mathlib.Core.Option.{none}
-use Rattle.std.proofs.lemmas.List.{drop_all}
 use Rattle.std.specs.List.{AllByRecursion}
 use Rattle.std.proofs.lemmas.Bool.{false≢true}
-use Rattle.words.specs.Words.{kind, payload, same_kind, one_of, first_failing, refusal, ends_early, refused}
+use Rattle.words.specs.Words.{kind, payload, same_kind, one_of, first_failing, refused}
 use Rattle.words.proofs.Words.{all_hold, payload_below, is_one_of, end_kind}
-use Rattle.sheet.specs.Kinds.{Kind, END}
+use Rattle.sheet.specs.Kinds.{END}
 use Rattle.sheet.specs.declared.fault.SheetFault.{SheetFault}
 use Rattle.sheet.specs.declared.section.Section.{Section}
 use Rattle.sheet.specs.declared.section.Section.TheVariants.{Head, First, LBlocks, Blocks, Edges, Loop, Facts}
@@ -16,9 +15,12 @@ use Rattle.sheet.specs.SheetWords.{PartsFit}
 use Rattle.sheet.specs.BlockTable.{Laid}
 use Rattle.sheet.proofs.ReadSheet.{Holds, goes, closing}
 use Rattle.sheet.specs.Drafts.{Items, sheet_of}
-use Rattle.sheet.specs.Sections.{no_items, state_of, Ready, lacking_in, Turn, Went, Stepped, Goes, stays, takes}
+use Rattle.sheet.specs.Sections.{no_items, state_of, Ready, lacking_in, Turn, Stepped, Goes, stays, takes}
 use Rattle.sheet.proofs.Laid.{laid_none}
 use Rattle.sheet.proofs.Turns.{closed_is}
+use Rattle.sheet.specs.declared.draft.placed.PlacedWord.{PlacedWord}
+use Rattle.sheet.specs.Placed.{TakesPlaced}
+use Rattle.sheet.proofs.Pairs.{placed}
 use Rattle.sheet.proofs.ReadSteps.{sheet_refused, sheet_goes_on, sheet_ends}
 
 -- one word
@@ -28,23 +30,11 @@ module _ (ws : List ℕ) (s : Section) (I J : Items) (i : ℕ) (l : i < length w
   turned (Ok None) f = (l, f.0, f.1, f.2)
   turned (Err e) f = sheet_refused ws i l (state_of s I) (sheet_refusal e) f
 
-  pub word_steps : (vs : List ℕ) (r : Result (Maybe Section) SheetFault) (k : Kind) (p a j : ℕ) → vs ≡ ws → k ≡ kind (get_or ws i 0) → p ≡ payload (get_or ws i 0) → a ≡ i → j ≡ i + 1
-      → Turn s I k p a (drop (a + 1) vs) r J → Stepped ws s I i r J j
-  word_steps vs r k p a j v e f g h t =
-      subst (Stepped ws s I i r J) (sym h)
-      (turned r (subst (λ k. Turn s I k (payload (get_or ws i 0)) i (drop (i + 1) ws) r J) e (subst (λ p. Turn s I k p i (drop (i + 1) ws) r J) f (subst (λ a. Turn s I k p a (drop (a + 1) ws) r J) g (subst (λ vs. Turn s I k p a (drop (a + 1) vs) r J) v t)))))
-
--- no word
-pub none_left : (ws : List ℕ) (st : State) (i : ℕ) → length ws ≤ i → read_from st (drop i ws) i ≡ refused (refusal ends_early i)
-none_left ws st i l = ap (λ z. read_from st z i) (drop_all i ws l)
-
--- the two words of an l-block
-module _ (ws : List ℕ) (s : Section) (n : ℕ) (I J : Items) (i j : ℕ) (e : s ≡ LBlocks n) where
-  pub pair_steps : (t : Section) → Went ws (LBlocks n) I i (Ok t) J j → Stepped ws s I i (Ok (Some t)) J j
-  pair_steps t f = subst (λ s. Stepped ws s I i (Ok (Some t)) J j) (sym e) f
-
-  pub pair_breaks : (x : SheetFault) → Went ws (LBlocks n) I i (Err x) J j → Stepped ws s I i (Err x) J j
-  pair_breaks x f = subst (λ s. Stepped ws s I i (Err x) J j) (sym e) f
+pub word_steps : (ws : List ℕ) (s : Section) (I J : Items) (i : ℕ) (ready : Ready s I) (vs : List ℕ) (r : Result (Maybe Section) SheetFault) (w : PlacedWord) (j : ℕ) → vs ≡ ws → TakesPlaced ws i (Ok w) j
+    → Turn s I w.kind w.payload.0 w.at (drop (w.at + 1) vs) r J → Stepped ws s I i r J j
+word_steps ws s I J i ready vs r w j v f t =
+    subst (Stepped ws s I i r J) (sym f.2)
+    (turned ws s I J i f.0 ready r (placed (λ k p a. Turn s I k p a (drop (a + 1) ws) r J) ws i w f.1 (subst (λ vs. Turn s I w.kind w.payload.0 w.at (drop (w.at + 1) vs) r J) v t)))
 
 pub none_lacks : (s : Section) → ((n : ℕ) → s ≡ LBlocks n → ⊥) → lacking_in s ≡ 0
 none_lacks Head h = refl

@@ -1,5 +1,5 @@
 -- For code: the items that the code holds, as the reader's state, one word after another. Assumes nothing.
-use Rattle.std.proofs.Common.{◌≡◌, ℕ, suc, ◌+◌, ◌<◌, ◌≤◌, Bool, true, false, cond, not, ◌&&◌, ◌||◌, eqb, ltb, List, [], ◌∷◌, ◌++◌, map, length, get_or, take, Some, None, Ok, sum_by, filter, Option as Maybe, Result, sym, refl, ap, ◌∙◌, subst, ap₂, add-zero, zero-add, arith}
+use Rattle.std.proofs.Common.{◌≡◌, ℕ, suc, ◌+◌, ◌<◌, ◌≤◌, Bool, true, false, cond, not, ◌&&◌, ◌||◌, eqb, ltb, List, [], ◌∷◌, ◌++◌, map, length, get_or, take, Some, None, Ok, Err, sum_by, filter, Option as Maybe, Result, sym, refl, ap, ◌∙◌, subst, ap₂, add-zero, zero-add, arith}
 use mathlib.Core.Option.{Option, none, some}
 use Rattle.std.specs.List.{AllByRecursion}
 use Rattle.std.proofs.lemmas.List.{take_more, take_all, take_at, length_push, get_or_push, map-append, append-nil}
@@ -7,11 +7,11 @@ use Rattle.std.proofs.lemmas.List.Elements.{filter-append}
 use Rattle.std.proofs.ByRecursion.{All-push, All-weaker}
 use Rattle.std.proofs.lemmas.List.Sums.{sum_by_push}
 use Rattle.std.proofs.lemmas.Bool.{eq-eqb, ne_eqb, false≢true}
-use Rattle.words.proofs.Checks.{fails, passes}
+use Rattle.words.proofs.Checks.{passes}
 use Rattle.words.proofs.Words.{all_hold, within_true}
 use Rattle.words.specs.Lists.{any}
-use Rattle.words.specs.Words.{upper, lower, i_field, j_field, empty, within, one_of, same_kind, refusal, Check, demand, first_failing, not_due, out_of_limit, too_many, wrong_loop, wrong_fact, wrong_end}
-use Rattle.sheet.specs.Kinds.{Kind, HEAD, BLOCK, LBLOCK, EDGE, LOOP, BACK, FACT, END, Refusal}
+use Rattle.words.specs.Words.{upper, lower, i_field, j_field, empty, within, one_of, same_kind, Check, demand, first_failing, not_due, out_of_limit, too_many, wrong_loop, wrong_fact, wrong_end}
+use Rattle.sheet.specs.Kinds.{Kind, BLOCK, LBLOCK, EDGE, LOOP, BACK, FACT, END, Refusal}
 use Rattle.sheet.specs.declared.parts.BackEdge.{BackEdge}
 use Rattle.sheet.specs.declared.parts.Loop.{Loop as Header}
 use Rattle.sheet.specs.declared.section.Section.{Section}
@@ -23,9 +23,9 @@ use Rattle.sheet.specs.ReadSheet.{loop_of as spec_loop}
 use Rattle.sheet.specs.BlockTable.{Laid}
 use Rattle.sheet.specs.declared.fault.SheetFault.{SheetFault}
 use Rattle.sheet.specs.Faults.{sheet_refusal}
-use Rattle.sheet.specs.Drafts.{Items, sheet_of, backs_of, loop_of, loops_from, add_head, add_block, add_edge, add_loop, add_back, add_fact}
+use Rattle.sheet.specs.Drafts.{Items, sheet_of, backs_of, loop_of, loops_from, add_block, add_edge, add_loop, add_back, add_fact}
 use Rattle.sheet.specs.Sections.{Ready, IsOpen, state_of, trial, before_loop, no_header, due_in, lacking_in, tried, Turn}
-use Rattle.sheet.specs.Tried.{whole_in, loop_checks, back_checks, fact_checks, end_checks}
+use Rattle.sheet.specs.Tried.{Added, whole_in, header_of, number_in, loop_checks, back_checks, fact_checks, end_checks}
 use Rattle.sheet.proofs.Drafts.{some_back}
 use Rattle.sheet.proofs.Laid.{laid_block}
 
@@ -151,15 +151,18 @@ module _ (s : Section) (I : Items) (h : IsOpen s I) (p i : ℕ) (rest : List ℕ
   pub end_trial : end_checks s I p i rest ≡ trial s I END p i rest
   end_trial = ap (λ b. demand (eqb p i) wrong_end i ∷ demand b wrong_loop i ∷ demand (empty rest) wrong_end (suc i) ∷ []) (whole_is s I h)
 
-pub back_trial : (n hd : ℕ) (I : Items) → Ready (Loop n hd) I → (p i : ℕ) (rest : List ℕ) → back_checks n hd I p i ≡ trial (Loop n hd) I BACK p i rest
-back_trial n hd I r p i rest = ap₂
+pub back_trial : (s : Section) (I : Items) → Ready s I → one_of BACK (due_in s) ≡ true → (p i : ℕ) (rest : List ℕ) → back_checks s I p i ≡ trial s I BACK p i rest
+back_trial Head I r d p i rest = absurd (false≢true d)
+back_trial First I r d p i rest = absurd (false≢true d)
+back_trial (LBlocks n) I r d p i rest = absurd (false≢true d)
+back_trial Blocks I r d p i rest = absurd (false≢true d)
+back_trial Edges I r d p i rest = absurd (false≢true d)
+back_trial (Loop n hd) I r d p i rest = ap₂
     (λ (a h : ℕ). demand (ltb a 64) too_many i ∷ demand (any (same_edge (edge p h)) I.edges) wrong_loop i ∷ demand (not (any (eqb p) (backs_of I.backs n))) wrong_loop i ∷ [])
     (sym (ap back_words (closed_loop I n r.is_open.0) ∙ r.counted)) (sym r.is_open.1)
+back_trial Facts I r d p i rest = absurd (false≢true d)
 
 -- the items that a word adds are ready
-ready_head : (I : Items) (p : ℕ) → Ready Head I → Ready First (add_head I p)
-ready_head I p r = record { is_open = tt; owned = r.owned; counted = r.counted; laid = r.laid }
-
 ready_block : (s : Section) (I : Items) (p : ℕ) → lacking_in s ≡ 0 → Ready s I → 1 ≤ p → Ready (LBlocks p) (add_block I p)
 ready_block s I p z r l = record {
   is_open = l;
@@ -212,25 +215,13 @@ ready_back n hd I p r = record {
         ∙ sum_by_push (λ l. length l.backs) (loops_from bs 0 (take n I.loops)) (loop_of bs (0 + length (take n I.loops)) (get_or I.loops n no_header))
         ∙ ap (λ k. sum_by (λ l. length l.backs) (loops_from bs 0 (take n I.loops)) + length (backs_of bs k)) (omega (arith, before_length I n r.is_open.0))
 
--- the word is due, or not
+-- a word that is due
 module _ (s : Section) (I : Items) (k : Kind) (p i : ℕ) (rest : List ℕ) where
-  pub not_due_here : one_of k (due_in s) ≡ false → first_failing (tried s I k p i rest) ≡ some (refusal not_due i)
-  not_due_here e = fails (one_of k (due (state_of s I).stand)) not_due i (trial s I k p i rest) (ap (one_of k) (due_is s I) ∙ e)
-
   pub due_here : (o : Option Refusal) → one_of k (due_in s) ≡ true → first_failing (trial s I k p i rest) ≡ o → first_failing (tried s I k p i rest) ≡ o
   due_here o e h = passes (one_of k (due (state_of s I).stand)) not_due i (trial s I k p i rest) o (ap (one_of k) (due_is s I) ∙ e) h
 
 -- a turn with each kind of word
 module _ (I : Items) (p i : ℕ) (rest : List ℕ) where
-  pub head_turn : (s : Section) → Ready s I → one_of HEAD (due_in s) ≡ true → first_failing (checks (sheet_of I) none HEAD p i []) ≡ none → Turn s I HEAD p i rest (Ok (Some First)) (add_head I p)
-  head_turn Head r d e = (due_here Head I HEAD p i rest none d e, refl, refl, ready_head I p r)
-  head_turn First r d e = absurd (false≢true d)
-  head_turn (LBlocks n) r d e = absurd (false≢true d)
-  head_turn Blocks r d e = absurd (false≢true d)
-  head_turn Edges r d e = absurd (false≢true d)
-  head_turn (Loop n h) r d e = absurd (false≢true d)
-  head_turn Facts r d e = absurd (false≢true d)
-
   some_lblock : first_failing (checks (sheet_of I) none BLOCK p i []) ≡ none → 1 ≤ p
   some_lblock e = (within_true 1 16 p (all_hold (checks (sheet_of I) none BLOCK p i []) e).0).0
 
@@ -265,9 +256,6 @@ module _ (I : Items) (p i : ℕ) (rest : List ℕ) where
   none_lacking (Loop m h) k n d = refl
   none_lacking Facts k n d = refl
 
-  new_loop : Header
-  new_loop = record { header = upper p; bound = lower p }
-
   opened : Ready (Loop (length I.loops) (upper p)) (add_loop I (record { header = upper p; bound = lower p })) → AllByRecursion (λ b. b.owner < length I.loops) I.backs
       → stands (in_loop (spec_loop p)) (sheet_of I) ≡ state_of (Loop (length I.loops) (upper p)) (add_loop I (record { header = upper p; bound = lower p }))
   opened r o = ap₂
@@ -285,14 +273,20 @@ module _ (I : Items) (p i : ℕ) (rest : List ℕ) where
         new,
       )
 
-  pub back_turn : (n hd : ℕ) → Ready (Loop n hd) I → first_failing (back_checks n hd I p i) ≡ none → Turn (Loop n hd) I BACK p i rest (Ok (Some (Loop n hd))) (add_back I n p)
-  back_turn n hd r e = (
-    due_here (Loop n hd) I BACK p i rest none refl (ap first_failing (sym (back_trial n hd I r p i rest)) ∙ e),
+  pub back_turn : (s : Section) → Ready s I → one_of BACK (due_in s) ≡ true → first_failing (back_checks s I p i) ≡ none → Turn s I BACK p i rest (Ok (Some s)) (add_back I (number_in s) p)
+  back_turn Head r d e = absurd (false≢true d)
+  back_turn First r d e = absurd (false≢true d)
+  back_turn (LBlocks n) r d e = absurd (false≢true d)
+  back_turn Blocks r d e = absurd (false≢true d)
+  back_turn Edges r d e = absurd (false≢true d)
+  back_turn (Loop n hd) r d e = (
+    due_here (Loop n hd) I BACK p i rest none d (ap first_failing (sym (back_trial (Loop n hd) I r d p i rest)) ∙ e),
     refl,
     ap₂ (λ (b : List ℕ) (ls : List sheet.Loop). stands (in_loop (record { header = (get_or I.loops n no_header).header; bound = (get_or I.loops n no_header).bound; backs = b })) (record { sets = I.sets; blocks = length I.blocks; lblocks = I.lblocks; edges = I.edges; loops = ls; facts = I.facts }))
         (sym (back_own I.backs n p)) (sym (loops_back I.backs n p 0 (take n I.loops) (omega (arith, before_length I n r.is_open.0)))),
     ready_back n hd I p r,
   )
+  back_turn Facts r d e = absurd (false≢true d)
 
   pub fact_turn : (s : Section) → Ready s I → one_of FACT (due_in s) ≡ true → first_failing (fact_checks s I p i) ≡ none → Turn s I FACT p i rest (Ok (Some Facts)) (add_fact I p)
   fact_turn s r d e = (
@@ -318,29 +312,32 @@ edge_trial Edges I p i rest = refl
 edge_trial (Loop n h) I p i rest = refl
 edge_trial Facts I p i rest = refl
 
--- the same, as the code has it: what was found at the last call, and the items that it left
-pub moved : (s : Section) (I J K : Items) (k : Kind) (p i : ℕ) (rest : List ℕ) (r : Result (Maybe Section) SheetFault) → J ≡ K → Turn s I k p i rest r K → Turn s I k p i rest r J
-moved s I J K k p i rest r e t = subst (Turn s I k p i rest r) (sym e) t
+-- A word of kind j is taken, as the code has it: its checks are the reader's, and where they pass it is a turn.
+taken : (s : Section) (I J K : Items) (k j : Kind) (p i : ℕ) (rest : List ℕ) (cs : List Check) (o : Maybe Section) (r : Result (Maybe Section) SheetFault) → k ≡ j → one_of k (due_in s) ≡ true
+    → (one_of j (due_in s) ≡ true → cs ≡ trial s I j p i rest) → (one_of j (due_in s) ≡ true → first_failing cs ≡ none → Turn s I j p i rest (Ok o) K)
+    → Added cs K o r J → Turn s I k p i rest r J
+taken s I J K k j p i rest cs o (Ok y) q d c t f =
+    subst (λ k. one_of k (due_in s) ≡ true → Turn s I k p i rest (Ok y) J) (sym q)
+    (λ d. subst (λ y. Turn s I j p i rest (Ok y) J) (sym f.1) (subst (Turn s I j p i rest (Ok o)) (sym f.2) (t d f.0))) d
+taken s I J K k j p i rest cs o (Err e) q d c t f =
+    subst (λ k. one_of k (due_in s) ≡ true → Turn s I k p i rest (Err e) J) (sym q)
+    (λ d. due_here s I j p i rest (some (sheet_refusal e)) d (ap first_failing (sym (c d)) ∙ f)) d
 
-pub broke : (s : Section) (I : Items) (k : Kind) (p i : ℕ) (rest : List ℕ) (cs : List Check) (e : SheetFault) → cs ≡ trial s I k p i rest → one_of k (due_in s) ≡ true
-    → first_failing cs ≡ some (sheet_refusal e) → first_failing (tried s I k p i rest) ≡ some (sheet_refusal e)
-broke s I k p i rest cs e q d f = due_here s I k p i rest (some (sheet_refusal e)) d (ap first_failing (sym q) ∙ f)
+module _ (s : Section) (I J : Items) (k : Kind) (p i : ℕ) (rest : List ℕ) (r : Result (Maybe Section) SheetFault) (ready : Ready s I) (d : one_of k (due_in s) ≡ true) where
+  pub block_taken : k ≡ BLOCK → Added (checks (sheet_of I) none BLOCK p i []) (add_block I p) (Some (LBlocks p)) r J → Turn s I k p i rest r J
+  block_taken q = taken s I J (add_block I p) k BLOCK p i rest (checks (sheet_of I) none BLOCK p i []) (Some (LBlocks p)) r q d (λ e. block_trial s I p i rest) (block_turn I p i rest s ready)
 
-pub loop_turned : (s t : Section) (I J : Items) (p i : ℕ) (rest : List ℕ) → Ready s I → one_of LOOP (due_in s) ≡ true
-    → (first_failing (loop_checks s I p i) ≡ none) × (t ≡ Loop (length I.loops) (upper p)) × (J ≡ add_loop I (record { header = upper p; bound = lower p }))
-    → Turn s I LOOP p i rest (Ok (Some t)) J
-loop_turned s t I J p i rest r d f =
-    subst (λ x. Turn s I LOOP p i rest (Ok (Some x)) J) (sym f.1)
-    (moved s I J (add_loop I (record { header = upper p; bound = lower p })) LOOP p i rest (Ok (Some (Loop (length I.loops) (upper p)))) f.2 (loop_turn I p i rest s r d f.0))
+  pub edge_taken : k ≡ EDGE → Added (checks (sheet_of I) none EDGE p i []) (add_edge I p) (Some Edges) r J → Turn s I k p i rest r J
+  edge_taken q = taken s I J (add_edge I p) k EDGE p i rest (checks (sheet_of I) none EDGE p i []) (Some Edges) r q d (λ e. edge_trial s I p i rest) (edge_turn I p i rest s ready)
 
-pub back_turned : (s : Section) (I J : Items) (n hd p i : ℕ) (rest : List ℕ) → s ≡ Loop n hd → Ready s I
-    → (first_failing (back_checks n hd I p i) ≡ none) × (J ≡ add_back I n p) → Turn s I BACK p i rest (Ok (Some (Loop n hd))) J
-back_turned s I J n hd p i rest e r f =
-    subst (λ t. Ready t I → Turn t I BACK p i rest (Ok (Some (Loop n hd))) J) (sym e)
-    (λ r. moved (Loop n hd) I J (add_back I n p) BACK p i rest (Ok (Some (Loop n hd))) f.1 (back_turn I p i rest n hd r f.0)) r
+  pub loop_taken : k ≡ LOOP → Added (loop_checks s I p i) (add_loop I (header_of p)) (Some (Loop (length I.loops) (upper p))) r J → Turn s I k p i rest r J
+  loop_taken q = taken s I J (add_loop I (header_of p)) k LOOP p i rest (loop_checks s I p i) (Some (Loop (length I.loops) (upper p))) r q d (λ e. loop_trial s I ready.is_open p i rest) (loop_turn I p i rest s ready)
 
-pub back_broke : (s : Section) (I : Items) (n hd p i : ℕ) (rest : List ℕ) (x : SheetFault) → s ≡ Loop n hd → Ready s I
-    → first_failing (back_checks n hd I p i) ≡ some (sheet_refusal x) → first_failing (tried s I BACK p i rest) ≡ some (sheet_refusal x)
-back_broke s I n hd p i rest x e r f =
-    subst (λ t. Ready t I → first_failing (tried t I BACK p i rest) ≡ some (sheet_refusal x)) (sym e)
-    (λ r. broke (Loop n hd) I BACK p i rest (back_checks n hd I p i) x (back_trial n hd I r p i rest) refl f) r
+  pub back_taken : k ≡ BACK → Added (back_checks s I p i) (add_back I (number_in s) p) (Some s) r J → Turn s I k p i rest r J
+  back_taken q = taken s I J (add_back I (number_in s) p) k BACK p i rest (back_checks s I p i) (Some s) r q d (λ e. back_trial s I ready e p i rest) (back_turn I p i rest s ready)
+
+  pub fact_taken : k ≡ FACT → Added (fact_checks s I p i) (add_fact I p) (Some Facts) r J → Turn s I k p i rest r J
+  fact_taken q = taken s I J (add_fact I p) k FACT p i rest (fact_checks s I p i) (Some Facts) r q d (λ e. fact_trial s I ready.is_open p i rest) (fact_turn I p i rest s ready)
+
+  pub end_taken : k ≡ END → Added (end_checks s I p i rest) I None r J → Turn s I k p i rest r J
+  end_taken q = taken s I J I k END p i rest (end_checks s I p i rest) None r q d (λ e. end_trial s I ready.is_open p i rest) (end_turn I p i rest s ready)

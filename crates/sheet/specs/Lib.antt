@@ -11,6 +11,7 @@ pub mod Faults
 pub mod BlockTable
 pub mod Drafts
 pub mod Tried
+pub mod Placed
 pub mod Sections
 pub mod Kept
 pub mod Sound

@@ -1,17 +1,17 @@
 -- Where the code that reads a sheet stands, as the reader's state. Assumes nothing.
-use Rattle.std.specs.Prelude.{◌≡◌, ℕ, suc, ◌+◌, ◌-◌, ◌<◌, ◌≤◌, true, false, cond, ◌⊎◌, List, [], ◌∷◌, length, get_or, take, drop, Some, None, Ok, Err, Option as Maybe, Result, nat_lt, slice_index, slice_index_or}
+use Rattle.std.specs.Prelude.{◌≡◌, ℕ, suc, ◌+◌, ◌-◌, ◌<◌, ◌≤◌, true, false, cond, List, [], ◌∷◌, length, get_or, take, drop, Some, None, Ok, Err, Option as Maybe, Result, nat_lt, slice_index, slice_index_or}
 use Rattle.std.proofs.Math.Option.{none, some}
 use Rattle.std.specs.List.{AllByRecursion}
-use Rattle.words.specs.Words.{set_field, tag_field, one_of, refusal, ends_early, not_due, demand, kind, payload, same_kind, Check, first_failing, refused}
+use Rattle.words.specs.Words.{one_of, not_due, demand, kind, payload, same_kind, Check, first_failing, refused}
 use Rattle.sheet.specs.declared.parts.Loop.{Loop as Header}
 use Rattle.sheet.specs.declared.section.Section.{Section}
 use Rattle.sheet.specs.declared.section.Section.TheVariants.{Head, First, LBlocks, Blocks, Edges, Loop, Facts}
-use Rattle.sheet.specs.Kinds.{Kind, LBLOCK, COST, END}
-use Rattle.sheet.specs.ReadSheet.{at_head, at_first, at_lblock, at_blocks, at_edges, in_loop, at_facts, State, stands, due, back_words, open_loop, checks, demands, next, read_from, lblock_of}
+use Rattle.sheet.specs.Kinds.{Kind, END}
+use Rattle.sheet.specs.ReadSheet.{at_head, at_first, at_lblock, at_blocks, at_edges, in_loop, at_facts, State, stands, due, back_words, open_loop, checks, demands, next, read_from}
 use Rattle.sheet.specs.declared.fault.SheetFault.{SheetFault}
 use Rattle.sheet.specs.Faults.{sheet_refusal}
 use Rattle.sheet.specs.BlockTable.{Laid}
-use Rattle.sheet.specs.Drafts.{Items, sheet_of, loop_of, add_lblock}
+use Rattle.sheet.specs.Drafts.{Items, sheet_of, loop_of}
 
 abbrev pub no_header : Header
 no_header = record { header = 0; bound = 0 }
@@ -88,34 +88,9 @@ Turn s I k p i rest (Err e) J = first_failing (tried s I k p i rest) ≡ some (s
 abbrev pub section_past_lblock : ℕ → Section
 section_past_lblock n = cond (nat_lt 1 n) (LBlocks (n - 1)) Blocks
 
--- Reading on from place i: the words lead to another state, or the fault is the answer.
-abbrev pub Went : List ℕ → Section → Items → ℕ → Result Section SheetFault → Items → ℕ → Type 0
-Went ws s I i (Ok t) J j = Goes ws (state_of s I) i (state_of t J) j × Ready t J × (i < j) × (j ≤ length ws)
-Went ws s I i (Err e) J j = read_from (state_of s I) (drop i ws) i ≡ refused (sheet_refusal e)
-
--- The same, or END is read and the items stay.
+-- Reading on from place i: the words lead to another state, or END is read and the items stay, or the fault is the answer.
 abbrev pub Stepped : List ℕ → Section → Items → ℕ → Result (Maybe Section) SheetFault → Items → ℕ → Type 0
 Stepped ws s I i (Ok (Some t)) J j = Goes ws (state_of s I) i (state_of t J) j × Ready t J × (i < j) × (j ≤ length ws)
 Stepped ws s I i (Ok None) J j =
     (i < length ws) × (first_failing (demands (state_of s I) (slice_index ws i) i (drop (i + 1) ws)) ≡ none) × (same_kind (kind (slice_index ws i)) END ≡ true) × (J ≡ I)
 Stepped ws s I i (Err e) J j = read_from (state_of s I) (drop i ws) i ≡ refused (sheet_refusal e)
-
--- The fault of an l-block of which so few words are left.
-abbrev pub lblock_demands : Items → ℕ → ℕ → List Check
-lblock_demands I w i = demand (one_of (kind w) (LBLOCK ∷ [])) not_due i ∷ checks (sheet_of I) none LBLOCK (payload w) i []
-
-abbrev pub Cut : Items → List ℕ → ℕ → SheetFault → Type 0
-Cut I [] i e = refusal ends_early i ≡ sheet_refusal e
-Cut I (w ∷ ws) i e = (first_failing (lblock_demands I w i) ≡ some (sheet_refusal e)) ⊎ ((first_failing (lblock_demands I w i) ≡ none) × (refusal ends_early (i + 1) ≡ sheet_refusal e))
-
-abbrev pub cost_demands : ℕ → ℕ → List Check
-cost_demands w i = demand (one_of (kind w) (COST ∷ [])) not_due i ∷ []
-
--- The two words of an l-block.
-abbrev pub Paired : Items → ℕ → ℕ → ℕ → Result (Unit {0}) SheetFault → Items → Type 0
-Paired I v w i (Ok u) J =
-    (first_failing (lblock_demands I v i) ≡ none) × (first_failing (cost_demands w (i + 1)) ≡ none)
-    × (J ≡ add_lblock I (lblock_of (length I.blocks - 1) (set_field (payload v)) (tag_field (payload v)) (payload w)))
-Paired I v w i (Err e) J =
-    (first_failing (lblock_demands I v i) ≡ some (sheet_refusal e))
-    ⊎ ((first_failing (lblock_demands I v i) ≡ none) × (first_failing (cost_demands w (i + 1)) ≡ some (sheet_refusal e)))

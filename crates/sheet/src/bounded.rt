@@ -1,5 +1,5 @@
 // A list of at most N items, in memory that is reserved once.
-ghost use Rattle.std.specs.Prelude.{◌≡◌, ◌<◌, ◌≤◌, [], ◌∷◌, ◌++◌, length, replicate, IfOk, vec_len, vec_capacity, nat_eq, slice_set};
+ghost use Rattle.std.specs.Prelude.{◌≡◌, ◌<◌, ◌≤◌, not, nat_lt, [], ◌∷◌, ◌++◌, length, replicate, IfOk, vec_len, vec_capacity, slice_set};
 
 use std::alloc::{AllocError, Global};
 
@@ -28,9 +28,9 @@ impl<T, const N: usize> BoundedVec<T, N> {
 
     // Whether no other item has room.
     pub(crate) fn is_full(&self) -> bool
-        ensures { result ≡ nat_eq (length self.now.list.items) N }
+        ensures { result ≡ not (nat_lt (length self.now.list.items) N) }
     {
-        self.len() == N
+        self.list.len() == N
     }
 
     pub(crate) fn as_slice(&self) -> &[T]

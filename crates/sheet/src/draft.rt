@@ -1,26 +1,22 @@
 // The items of a sheet that is being read, in memory that is reserved beforehand.
-ghost use Rattle.std.specs.Prelude.{◌≤◌, vec_capacity};
-
+use crate::bounded::BoundedVec;
+use crate::limits::{MOST_BACKS, MOST_BLOCKS, MOST_EDGES, MOST_FACTS, MOST_LBLOCKS, MOST_LOOPS};
 use crate::parts::{BackEdge, Block, Edge, Fact, LBlock, Loop};
 
 #[derive(Drop)]
 pub struct Draft {
     pub sets: usize,
-    pub blocks: Vec<Block>,
-    pub lblocks: Vec<LBlock>,
-    pub edges: Vec<Edge>,
-    pub loops: Vec<Loop>,
-    pub backs: Vec<BackEdge>,
-    pub facts: Vec<Fact>,
-    ghost block_room: { 128 ≤ vec_capacity blocks },
-    ghost lblock_room: { 512 ≤ vec_capacity lblocks },
-    ghost edge_room: { 512 ≤ vec_capacity edges },
-    ghost loop_room: { 32 ≤ vec_capacity loops },
-    ghost back_room: { 64 ≤ vec_capacity backs },
-    ghost fact_room: { 32 ≤ vec_capacity facts },
+    pub blocks: BoundedVec<Block, MOST_BLOCKS>,
+    pub lblocks: BoundedVec<LBlock, MOST_LBLOCKS>,
+    pub edges: BoundedVec<Edge, MOST_EDGES>,
+    pub loops: BoundedVec<Loop, MOST_LOOPS>,
+    pub backs: BoundedVec<BackEdge, MOST_BACKS>,
+    pub facts: BoundedVec<Fact, MOST_FACTS>,
 }
 
 mod checks;
 mod conflicts;
 mod items;
+mod placed;
 mod read;
+mod scan;

@@ -7,7 +7,7 @@ use words::refusal::{Layer, Refusal, Refuse, WordFault};
 
 // A fault of the word layer, whole; too many items; a wrong edge, loop or fact, each with the place of its word; and too many conflict
 // edges, with the set that passes the limit.
-#[derive(Clone, Copy)]
+#[derive(Clone, Copy, PartialEq, Eq, Debug)]
 pub enum SheetFault {
     Word(WordFault),
     TooMany(usize),

@@ -4,9 +4,9 @@
 mod bounded;
 mod draft;
 pub mod fault;
+mod limits;
 pub mod parts;
 pub mod room;
-mod scan;
 mod section;
 pub mod timing;
 mod traversal;

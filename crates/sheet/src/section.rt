@@ -7,7 +7,7 @@ use words::word::Kind;
 
 // Before HEAD; after it; in a block that lacks so many l-blocks; after a whole block; after an edge; in a loop, with its number and its
 // header; after a fact.
-#[derive(Clone, Copy)]
+#[derive(Clone, Copy, PartialEq, Eq, Debug)]
 pub enum Section {
     Head,
     First,
@@ -24,9 +24,9 @@ impl Section {
         ensures { result ≡ one_of kind (due_in self) }
     {
         match self {
-            Section::Head => matches!(kind, Kind::Head),
-            Section::First => matches!(kind, Kind::Block),
-            Section::LBlocks(_) => matches!(kind, Kind::LBlock),
+            Section::Head => kind == Kind::Head,
+            Section::First => kind == Kind::Block,
+            Section::LBlocks(_) => kind == Kind::LBlock,
             Section::Blocks => matches!(
                 kind,
                 Kind::Block | Kind::Edge | Kind::Loop | Kind::Fact | Kind::End

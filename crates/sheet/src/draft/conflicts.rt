@@ -19,6 +19,12 @@ impl Draft {
         requires { Readable (items_of self.now) }
         ensures { Found (sheet_of (items_of self.now)) result out.new.list.items }
     {
-        traversal.find(self.sets, &self.blocks, &self.lblocks, &self.edges, out)
+        traversal.find(
+            self.sets,
+            self.blocks.as_slice(),
+            self.lblocks.as_slice(),
+            self.edges.as_slice(),
+            out,
+        )
     }
 }

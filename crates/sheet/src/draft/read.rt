@@ -4,6 +4,7 @@ ghost use Rattle.sheet.specs.Sections.{no_items};
 ghost use Rattle.sheet.specs.Tried.{items_of};
 ghost use Rattle.sheet.specs.Reads.{ReadItems};
 
+use crate::bounded::BoundedVec;
 use crate::draft::Draft;
 use crate::fault::SheetFault;
 use crate::section::Section;
@@ -17,12 +18,12 @@ impl Draft {
     {
         Ok(Draft {
             sets: 0,
-            blocks: Vec::with_capacity(heap, 128)?,
-            lblocks: Vec::with_capacity(heap, 512)?,
-            edges: Vec::with_capacity(heap, 512)?,
-            loops: Vec::with_capacity(heap, 32)?,
-            backs: Vec::with_capacity(heap, 64)?,
-            facts: Vec::with_capacity(heap, 32)?,
+            blocks: BoundedVec::reserve(heap)?,
+            lblocks: BoundedVec::reserve(heap)?,
+            edges: BoundedVec::reserve(heap)?,
+            loops: BoundedVec::reserve(heap)?,
+            backs: BoundedVec::reserve(heap)?,
+            facts: BoundedVec::reserve(heap)?,
         })
     }
 

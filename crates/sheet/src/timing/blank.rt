@@ -15,11 +15,11 @@ fn blank_draft(heap: Global) -> Result<Draft, AllocError>
 {
     let mut draft = Draft::reserve(heap)?;
     draft.sets = 1;
-    draft.blocks.push_reserved(Block {
+    draft.blocks.push(Block {
         first: 0,
         lblocks: 1,
     });
-    draft.lblocks.push_reserved(LBlock {
+    draft.lblocks.push(LBlock {
         block: 0,
         set: 0,
         tag: 0,

@@ -1,5 +1,5 @@
 // What a sheet holds.
-ghost use Rattle.std.specs.Prelude.{◌≡◌, ◌+◌, ◌*◌, ◌≤◌, length};
+ghost use Rattle.std.specs.Prelude.{◌≡◌, length};
 ghost use Rattle.sheet.specs.Conflict.{Conflicts};
 ghost use Rattle.sheet.specs.ConflictList.{conflicts as conflict_list};
 ghost use Rattle.sheet.specs.Rows.{rows as row_list, columns as column_list};
@@ -8,23 +8,6 @@ ghost use Rattle.sheet.specs.View.{items as items_in, view};
 
 use crate::parts::{BackEdge, Block, Conflict, Edge, Fact, LBlock, Loop};
 use crate::timing::Sheet;
-
-// An in and an out row for each block, a row for each loop and fact, an arrival, a departure and a miss row for each l-block, and one for
-// each used set.
-fn count_rows(blocks: usize, loops: usize, facts: usize, lblocks: usize, used: usize) -> usize
-    requires { (blocks ≤ 128) × (loops ≤ 32) × (facts ≤ 32) × (lblocks ≤ 512) × (used ≤ 64) }
-    ensures { result ≡ 2 * blocks + loops + facts + 3 * lblocks + used }
-{
-    2 * blocks + loops + facts + 3 * lblocks + used
-}
-
-// A column for each block, edge, l-block and conflict edge.
-fn count_columns(blocks: usize, edges: usize, lblocks: usize, conflicts: usize) -> usize
-    requires { (blocks ≤ 128) × (edges ≤ 512) × (lblocks ≤ 512) × (conflicts ≤ 4096) }
-    ensures { result ≡ blocks + edges + lblocks + conflicts }
-{
-    blocks + edges + lblocks + conflicts
-}
 
 impl Sheet {
     // How many cache sets there are.
@@ -80,28 +63,24 @@ impl Sheet {
         self.conflicts.as_slice()
     }
 
-    // How many rows the linear program has.
+    // How many rows the linear program has: an in and an out row for each block, a row for each loop and fact, an arrival, a departure and
+    // a miss row for each l-block, and one for each used set.
     pub fn rows(&self) -> usize
         ensures { result ≡ length (row_list (view self.now)) }
     {
-        count_rows(
-            self.draft.blocks.len(),
-            self.draft.loops.len(),
-            self.draft.facts.len(),
-            self.draft.lblocks.len(),
-            self.used,
-        )
+        let draft = &self.draft;
+        2 * draft.blocks.len()
+            + draft.loops.len()
+            + draft.facts.len()
+            + 3 * draft.lblocks.len()
+            + self.used
     }
 
-    // How many columns it has.
+    // How many columns it has: one for each block, edge, l-block and conflict edge.
     pub fn columns(&self) -> usize
         ensures { result ≡ length (column_list (view self.now) (conflict_list (view self.now))) }
     {
-        count_columns(
-            self.draft.blocks.len(),
-            self.draft.edges.len(),
-            self.draft.lblocks.len(),
-            self.conflicts.len(),
-        )
+        let draft = &self.draft;
+        draft.blocks.len() + draft.edges.len() + draft.lblocks.len() + self.conflicts.len()
     }
 }

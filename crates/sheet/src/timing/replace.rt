@@ -28,7 +28,7 @@ impl Sheet {
         requires listed { conflicts.old.list.items ≡ conflict_list (sheet_of (items_of draft.old)) }
         ensures { items_in self.new ≡ items_of draft.old }
     {
-        let used = count_used(draft.sets, &draft.lblocks);
+        let used = count_used(draft.sets, draft.lblocks.as_slice());
         std::mem::swap(&mut self.draft, draft);
         std::mem::swap(&mut self.conflicts, conflicts);
         self.used = used;

@@ -7,13 +7,13 @@ pub find-requires : goal.find-requires
 find-requires c =
     let p = c.requires.0 in
     record {
-      formed = find_formed (items_of c.args.self.now) c.deref.result.now c.deref-2.result.now c.deref-3.result.now c.deref.ensures.value c.deref-2.ensures.value c.deref-3.ensures.value c.requires;
-      table = find_table (items_of c.args.self.now) c.deref.result.now c.deref-2.result.now c.deref-3.result.now c.deref.ensures.value c.deref-2.ensures.value c.deref-3.ensures.value c.requires;
-      blocks = omega (arith, ap length c.deref.ensures.value, p.blocks_fit.few_blocks);
-      lblocks = omega (arith, ap length c.deref-2.ensures.value, p.blocks_fit.few_lblocks);
-      edges = omega (arith, ap length c.deref-3.ensures.value, p.edges_fit.few);
+      formed = find_formed (items_of c.args.self.now) c.as_slice.result.now c.as_slice-2.result.now c.as_slice-3.result.now c.as_slice.ensures.items c.as_slice-2.ensures.items c.as_slice-3.ensures.items c.requires;
+      table = find_table (items_of c.args.self.now) c.as_slice.result.now c.as_slice-2.result.now c.as_slice-3.result.now c.as_slice.ensures.items c.as_slice-2.ensures.items c.as_slice-3.ensures.items c.requires;
+      blocks = omega (arith, ap length c.as_slice.ensures.items, p.blocks_fit.few_blocks);
+      lblocks = omega (arith, ap length c.as_slice-2.ensures.items, p.blocks_fit.few_lblocks);
+      edges = omega (arith, ap length c.as_slice-3.ensures.items, p.edges_fit.few);
     }
 
 pub returns : goal.returns
-returns c = found_of (items_of c.args.self.now) c.deref.result.now c.deref-2.result.now c.deref-3.result.now c.deref.ensures.value c.deref-2.ensures.value c.deref-3.ensures.value
+returns c = found_of (items_of c.args.self.now) c.as_slice.result.now c.as_slice-2.result.now c.as_slice-3.result.now c.as_slice.ensures.items c.as_slice-2.ensures.items c.as_slice-3.ensures.items
     c.find.result c.find.new.out.list.items c.find.ensures

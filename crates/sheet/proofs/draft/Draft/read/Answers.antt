@@ -6,23 +6,22 @@ use Rattle.sheet.proofs.draft.Draft.read.Goals as goal
 
 pub loop-next-init : goal.loop-next-init
 loop-next-init c =
-    let b = loop_begins c.args.words.now (items_of c.clear.new.self) c.new-reader.result.at c.clear.ensures c.new-reader.ensures.1 in
+    let b = loop_begins _ _ _ c.clear.ensures c.new-reader.ensures.1 in
     (b.0, b.1, c.new-reader.ensures.0)
 
 pub returns-in_err-next : goal.returns-in_err-next
 returns-in_err-next c =
+    let i = c.loop-next.invariant in
     let p = err_from_is_err_and c.from_residual.result c.from_residual.ensures.1 in
-    rw (p.1, p.2)
-    (loop_breaks c.args.words.now c.loop-next.reader.words.now c.loop-next.section (items_of c.loop-next.self) (items_of c.step.new.self) c.loop-next.reader.at c.step.new.reader.at
-    c.loop-next.invariant.0 c.loop-next.invariant.2 c.in_err-next.field-0.0 c.in_err-next.ensures.stepped)
+    rw (p.1, p.2) (loop_breaks _ _ _ _ (items_of c.step.new.self) _ c.step.new.reader.at i.0 i.2 _ c.in_err-next.ensures.stepped)
 
 pub loop-next-preserved : goal.loop-next-preserved
 loop-next-preserved c =
-    let b = loop_again c.args.words.now c.loop-next.reader.words.now c.loop-next.section (items_of c.loop-next.self) (items_of c.step.new.self) c.loop-next.reader.at c.step.new.reader.at
-    c.loop-next.invariant.0 c.loop-next.invariant.2 c.in_ok-next.field-0 c.in-Some.next c.in-Some.is c.in_ok-next.ensures.stepped in
-    (b.0, b.1, ap (λ x. x.now) c.in_ok-next.ensures.same ∙ c.loop-next.invariant.2)
+    let i = c.loop-next.invariant in
+    let b = loop_again _ _ _ _ _ _ _ i.0 i.2 _ _ c.in-Some.is c.in_ok-next.ensures.stepped in
+    (b.0, b.1, ap (λ x. x.now) c.in_ok-next.ensures.same ∙ i.2)
 
 pub returns : goal.returns
 returns c =
-    loop_ends c.args.words.now c.loop-next.reader.words.now c.loop-next.section (items_of c.loop-next.self) (items_of c.step.new.self) c.loop-next.reader.at c.step.new.reader.at
-    c.loop-next.invariant.0 c.loop-next.invariant.2 c.in_ok-next.field-0 c.in_default.is c.loop-next.invariant.1 c.in_ok-next.ensures.stepped
+    let i = c.loop-next.invariant in
+    loop_ends _ _ _ _ _ _ _ i.0 i.2 _ c.in_default.is i.1 c.in_ok-next.ensures.stepped

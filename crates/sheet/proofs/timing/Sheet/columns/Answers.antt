@@ -7,4 +7,4 @@ use Rattle.sheet.proofs.timing.Sheet.columns.Goals as goal
 pub returns : goal.returns
 returns c =
     let s = c.args.self.now in
-    omega (arith, length-columns (view s) (conflicts (view s)), ap length s.listed, s.draft.blocks.ok.0, s.draft.lblocks.ok.0, s.draft.edges.ok.0, c.len-4.ensures)
+    omega (arith, length-columns (view s) (conflicts (view s)), ap length s.listed, c.len-4.ensures.count)

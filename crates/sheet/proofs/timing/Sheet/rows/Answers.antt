@@ -7,4 +7,4 @@ use Rattle.sheet.proofs.timing.Sheet.rows.Goals as goal
 pub returns : goal.returns
 returns c =
     let d = c.args.self.now.draft in
-    omega (arith, length-rows (view c.args.self.now), length-loops (vec_items d.backs) 0 (vec_items d.loops), d.blocks.ok.0, d.lblocks.ok.0, d.loops.ok.0, d.facts.ok.0)
+    omega (arith, length-rows (view c.args.self.now), length-loops (vec_items d.backs.list) 0 (vec_items d.loops.list))

@@ -1,0 +1,17 @@
+// How many of each item a sheet may have.
+pub(crate) const MOST_SETS: usize = 64;
+
+pub(crate) const MOST_BLOCKS: usize = 128;
+
+// In one block, and in all.
+pub(crate) const MOST_LBLOCKS_IN_BLOCK: usize = 16;
+
+pub(crate) const MOST_LBLOCKS: usize = 512;
+
+pub(crate) const MOST_EDGES: usize = 512;
+
+pub(crate) const MOST_LOOPS: usize = 32;
+
+pub(crate) const MOST_BACKS: usize = 64;
+
+pub(crate) const MOST_FACTS: usize = 32;
