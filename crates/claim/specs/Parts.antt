@@ -33,7 +33,7 @@ HighRead ws i (Err e) j = (d : Stand) (C : Certificate) → due d ≡ HIGH ∷ [
 
 -- D.
 abbrev pub ScaleRead : List ℕ → ℕ → Result Denominator ClaimFault → ℕ → Type 0
-ScaleRead ws i (Ok d) j = ((n : ℕ) (C : Certificate) → Onward ws (stands (at_claim n) C) i (stands (at_W n) (with_D C d.0)) j) × (1 ≤ d.0) × (d.0 < 2 ^ 20) × (i < length ws) × (j ≡ i + 1)
+ScaleRead ws i (Ok d) j = ((n : ℕ) (C : Certificate) → Onward ws (stands (at_claim n) C) i (stands (at_W n) (with_D C d.value)) j) × (i < length ws) × (j ≡ i + 1)
 ScaleRead ws i (Err e) j = (n : ℕ) (C : Certificate) → Refuses ws (stands (at_claim n) C) i e
 
 -- W.
@@ -55,10 +55,10 @@ EndRead ws i (Err e) = (C : Certificate) → Refuses ws (stands (at_pair 0) C) i
 
 -- The certificate that the code holds, whose multipliers stand in the caller's words.
 abbrev pub certificate_of : Held → Certificate
-certificate_of c = record { W = c.claim.0; D = c.scale.0; multipliers = multipliers c.pairs.now }
+certificate_of c = record { W = c.claim.0; D = c.scale.value; multipliers = multipliers c.pairs.now }
 
 -- A certificate for n rows, or the fault.
 abbrev pub CertificateRead : ℕ → List ℕ → Result Held ClaimFault → Type 0
 CertificateRead n ws (Ok c) =
-    (read_certificate n ws ≡ accepted (certificate_of c)) × (length c.pairs.now ≡ n) × (c.claim.0 < 2 ^ 40) × (1 ≤ c.scale.0) × (c.scale.0 < 2 ^ 20)
+    (read_certificate n ws ≡ accepted (certificate_of c)) × (length c.pairs.now ≡ n) × (c.claim.0 < 2 ^ 40)
 CertificateRead n ws (Err e) = read_certificate n ws ≡ refused (claim_refusal e)

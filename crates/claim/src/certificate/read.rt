@@ -44,11 +44,8 @@ fn read_scale(reader: &mut Reader) -> Result<Denominator, ClaimFault>
 {
     let at = reader.place();
     let word = reader.due(Kind::Claim)?;
-    let scale = word.payload.0;
-    if scale < 1 || scale > 1_048_575 {
-        return Err(ClaimFault::Word(WordFault::OutOfLimit(at)));
-    }
-    Ok(Denominator(scale))
+    let scale = Denominator::new(word.payload.0).ok_or(WordFault::OutOfLimit(at))?;
+    Ok(scale)
 }
 
 // The claim, which is not minus.

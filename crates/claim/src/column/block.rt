@@ -76,9 +76,8 @@ fn block_covered(
     requires sized { Sized (view sheet.now) (weights rows.now) }
     requires shares { FactTable (weights rows.now).facts (view sheet.now).facts shares.now }
     requires near { AllNear (2 ^ 60) shares.now }
-    requires scale { (1 ≤ scale.0) × (scale.0 < 2 ^ 20) }
     requires inside { b < (view sheet.now).blocks }
-    ensures { result ≡ covered (view sheet.now) (weights rows.now) scale.0 (N b) }
+    ensures { result ≡ covered (view sheet.now) (weights rows.now) scale.value (N b) }
 {
     let blocks = sheet.blocks();
     let block = blocks[b];
@@ -89,8 +88,7 @@ fn block_covered(
 // The first block whose column does not.
 pub(crate) fn low_block(sheet: &Sheet, rows: &Rows, scale: Denominator) -> Option<usize>
     requires sized { Sized (view sheet.now) (weights rows.now) }
-    requires scale { (1 ≤ scale.0) × (scale.0 < 2 ^ 20) }
-    ensures { FirstLow (covered (view sheet.now) (weights rows.now) scale.0) (map N (below (view sheet.now).blocks)) result }
+    ensures { FirstLow (covered (view sheet.now) (weights rows.now) scale.value) (map N (below (view sheet.now).blocks)) result }
 {
     let blocks = sheet.blocks().len();
     let shares = fact_shares(sheet.facts(), rows.facts);

@@ -16,8 +16,7 @@ use sheet::timing::Sheet;
 // Blocks, then edges, l-blocks and conflict edges.
 pub(crate) fn low_column(sheet: &Sheet, rows: &Rows, scale: Denominator) -> Option<usize>
     requires sized { Sized (view sheet.now) (weights rows.now) }
-    requires scale { (1 ≤ scale.0) × (scale.0 < 2 ^ 20) }
-    ensures { FirstLow (covered (view sheet.now) (weights rows.now) scale.0) (column_list (view sheet.now) (conflict_list (view sheet.now))) result }
+    ensures { FirstLow (covered (view sheet.now) (weights rows.now) scale.value) (column_list (view sheet.now) (conflict_list (view sheet.now))) result }
 {
     if let Some(b) = low_block(sheet, rows, scale) {
         return Some(b);

@@ -24,9 +24,8 @@ fn extra_cycles(lblocks: &[LBlock], v: usize) -> Cycles
 // Whether the column covers them.
 fn miss_covered(sheet: &Sheet, rows: &Rows, scale: Denominator, v: usize) -> bool
     requires sized { Sized (view sheet.now) (weights rows.now) }
-    requires scale { (1 ≤ scale.0) × (scale.0 < 2 ^ 20) }
     requires inside { v < length (view sheet.now).lblocks }
-    ensures { result ≡ covered (view sheet.now) (weights rows.now) scale.0 (M v) }
+    ensures { result ≡ covered (view sheet.now) (weights rows.now) scale.value (M v) }
 {
     // its contract also says what every sheet keeps
     let _blocks = sheet.blocks();
@@ -37,8 +36,7 @@ fn miss_covered(sheet: &Sheet, rows: &Rows, scale: Denominator, v: usize) -> boo
 // The first l-block whose column does not.
 pub(crate) fn low_miss(sheet: &Sheet, rows: &Rows, scale: Denominator) -> Option<usize>
     requires sized { Sized (view sheet.now) (weights rows.now) }
-    requires scale { (1 ≤ scale.0) × (scale.0 < 2 ^ 20) }
-    ensures { FirstLow (covered (view sheet.now) (weights rows.now) scale.0) (map M (below (length (view sheet.now).lblocks))) result }
+    ensures { FirstLow (covered (view sheet.now) (weights rows.now) scale.value) (map M (below (length (view sheet.now).lblocks))) result }
 {
     let lblocks = sheet.lblocks().len();
     for v in 0..lblocks {

@@ -48,7 +48,7 @@ returns-in-Some-low_column c =
 pub within-requires : goal.within-requires
 within-requires c =
     let h = c.in_ok-certificate.ensures in
-    record { product = mul-lt c.in_ok-certificate.certificate.claim.0 c.in_ok-certificate.certificate.scale.0 (2 ^ 40) (2 ^ 20) h.2 h.4; scale = (h.3, h.4) }
+    mul-lt c.in_ok-certificate.certificate.claim.0 c.in_ok-certificate.certificate.scale.value (2 ^ 40) (2 ^ 20) h.2 c.in_ok-certificate.certificate.scale.small
 
 pub returns-then-not-within : goal.returns-then-not-within
 returns-then-not-within c =

@@ -37,7 +37,7 @@ block_total-requires c =
     }
 
 pub reaches-requires : goal.reaches-requires
-reaches-requires c = record { product = omega (arith, mul-lt c.block_cost-cost.result.0 c.args.scale.0 (2 ^ 24) (2 ^ 20) (omega (arith, c.block_cost-cost.ensures.small)) c.requires.scale.1); scale = c.requires.scale.0 }
+reaches-requires c = omega (arith, mul-lt c.block_cost-cost.result.0 c.args.scale.value (2 ^ 24) (2 ^ 20) (omega (arith, c.block_cost-cost.ensures.small)) c.args.scale.small)
 
 pub returns : goal.returns
 returns c =
@@ -48,6 +48,6 @@ returns c =
     let e = c.blocks-blocks.ensures.listed in
     let h : b < length bs = omega (arith, c.requires.inside, ap length e) in
     c.reaches.ensures
-    ∙ sym (block_seen I s bs e b h (weights c.args.rows.now) c.requires.sized c.lblocks.result.now I.facts c.lblocks.ensures refl c.args.scale.0
-    (get_or c.args.shares.now b nothing).0 c.block_total.result.0 (pos (c.block_cost-cost.result.0 * c.args.scale.0)) c.block_cost-cost.result.0
+    ∙ sym (block_seen I s bs e b h (weights c.args.rows.now) c.requires.sized c.lblocks.result.now I.facts c.lblocks.ensures refl c.args.scale.value
+    (get_or c.args.shares.now b nothing).0 c.block_total.result.0 (pos (c.block_cost-cost.result.0 * c.args.scale.value)) c.block_cost-cost.result.0
     (c.requires.shares b nothing (block_inside I s bs e b h).2) (c.block_total.ensures nothing) c.block_cost-cost.ensures.cost refl)

@@ -21,14 +21,13 @@ fact_shares-shares-requires c =
     }
 
 pub loop-b-init : goal.loop-b-init
-loop-b-init c = passed_none (covered (view c.args.sheet.now) (weights c.args.rows.now) c.args.scale.0) (map N (below (view c.args.sheet.now).blocks))
+loop-b-init c = passed_none (covered (view c.args.sheet.now) (weights c.args.rows.now) c.args.scale.value) (map N (below (view c.args.sheet.now).blocks))
 
 pub block_covered-requires : goal.block_covered-requires
 block_covered-requires c = record {
   sized = c.requires.sized;
   shares = subst (λ fs. FactTable (multipliers c.args.rows.now.facts.now) fs c.fact_shares-shares.result) c.facts.ensures c.fact_shares-shares.ensures.shares;
   near = c.fact_shares-shares.ensures.near;
-  scale = c.requires.scale;
   inside = omega (arith, c.loop-b-test.true, ap length c.blocks-blocks.ensures.listed);
 }
 
@@ -37,18 +36,18 @@ returns-then-not-block_covered c =
     let n = (view c.args.sheet.now).blocks in
     let b = c.loop-b.b in
     let l : b < n = omega (arith, c.loop-b-test.true, ap length c.blocks-blocks.ensures.listed) in
-    failed_at (covered (view c.args.sheet.now) (weights c.args.rows.now) c.args.scale.0) (map N (below n)) b (N b) c.loop-b.invariant (omega (arith, l, length-each N n)) (get_or-each N n b (N b) l) (sym c.if-not-block_covered.ensures)
+    failed_at (covered (view c.args.sheet.now) (weights c.args.rows.now) c.args.scale.value) (map N (below n)) b (N b) c.loop-b.invariant (omega (arith, l, length-each N n)) (get_or-each N n b (N b) l) (sym c.if-not-block_covered.ensures)
 
 pub loop-b-preserved : goal.loop-b-preserved
 loop-b-preserved c =
     let n = (view c.args.sheet.now).blocks in
     let b = c.loop-b.b in
     let l : b < n = omega (arith, c.loop-b-test.true, ap length c.blocks-blocks.ensures.listed) in
-    passed_more (covered (view c.args.sheet.now) (weights c.args.rows.now) c.args.scale.0) (map N (below n)) b (N b) c.loop-b.invariant (omega (arith, l, length-each N n)) (get_or-each N n b (N b) l) (sym c.if-not-block_covered.ensures)
+    passed_more (covered (view c.args.sheet.now) (weights c.args.rows.now) c.args.scale.value) (map N (below n)) b (N b) c.loop-b.invariant (omega (arith, l, length-each N n)) (get_or-each N n b (N b) l) (sym c.if-not-block_covered.ensures)
 
 pub returns : goal.returns
 returns c =
     let n = (view c.args.sheet.now).blocks in
     let e = ap length c.blocks-blocks.ensures.listed in
-    passed_all (covered (view c.args.sheet.now) (weights c.args.rows.now) c.args.scale.0) (map N (below n)) c.loop-b.b c.loop-b.invariant (omega (arith, length-each N n, e, c.loop-b-test.false))
+    passed_all (covered (view c.args.sheet.now) (weights c.args.rows.now) c.args.scale.value) (map N (below n)) c.loop-b.b c.loop-b.invariant (omega (arith, length-each N n, e, c.loop-b-test.false))
     (omega (arith, length-each N n, e, c.loop-b.auto.b-end))

@@ -7,4 +7,4 @@ use Rattle.claim.proofs.Leading.{PassedTo}
 use Rattle.claim.proofs.column.block.low_block.Given as goal
 
 abbrev pub invariant-loop-b : goal.invariant-loop-b
-invariant-loop-b l = PassedTo (covered (view l.sheet) (weights l.rows) l.scale.0) (map N (below (view l.sheet).blocks)) l.b
+invariant-loop-b l = PassedTo (covered (view l.sheet) (weights l.rows) l.scale.value) (map N (below (view l.sheet).blocks)) l.b

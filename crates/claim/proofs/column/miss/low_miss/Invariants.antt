@@ -7,4 +7,4 @@ use Rattle.claim.proofs.Leading.{PassedTo}
 use Rattle.claim.proofs.column.miss.low_miss.Given as goal
 
 abbrev pub invariant-loop-v : goal.invariant-loop-v
-invariant-loop-v l = PassedTo (covered (view l.sheet) (weights l.rows) l.scale.0) (map M (below (length (view l.sheet).lblocks))) l.v
+invariant-loop-v l = PassedTo (covered (view l.sheet) (weights l.rows) l.scale.value) (map M (below (length (view l.sheet).lblocks))) l.v

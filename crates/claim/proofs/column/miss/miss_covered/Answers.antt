@@ -15,10 +15,10 @@ pub reaches-requires : goal.reaches-requires
 reaches-requires c =
     let e = c.extra_cycles-cost.ensures ∙ ap (λ vs. (get_or vs c.args.v no_lblock).extra) c.lblocks.ensures in
     let f = c.blocks-blocks.ensures.sound.lblocks_fit c.args.v no_lblock c.requires.inside in
-    record { product = omega (arith, mul-lt c.extra_cycles-cost.result.0 c.args.scale.0 (2 ^ 14) (2 ^ 20) (omega (arith, e, f.1)) c.requires.scale.1); scale = c.requires.scale.0 }
+    omega (arith, mul-lt c.extra_cycles-cost.result.0 c.args.scale.value (2 ^ 14) (2 ^ 20) (omega (arith, e, f.1)) c.args.scale.small)
 
 pub returns : goal.returns
 returns c =
     c.reaches.ensures
-    ∙ miss_test (view c.args.sheet.now) (weights c.args.rows.now) c.requires.sized c.args.scale.0 c.args.v c.extra_cycles-cost.result.0 (pos (c.extra_cycles-cost.result.0 * c.args.scale.0)) c.at.result.0 refl
+    ∙ miss_test (view c.args.sheet.now) (weights c.args.rows.now) c.requires.sized c.args.scale.value c.args.v c.extra_cycles-cost.result.0 (pos (c.extra_cycles-cost.result.0 * c.args.scale.value)) c.at.result.0 refl
     (c.extra_cycles-cost.ensures ∙ ap (λ vs. (get_or vs c.args.v no_lblock).extra) c.lblocks.ensures) c.at.ensures.value
