@@ -1,5 +1,5 @@
 -- For the code that reads a certificate: what each of its parts is read as. Assumes nothing.
-use Rattle.std.specs.Prelude.{◌≡◌, ℕ, suc, ◌+◌, ◌^◌, ◌<◌, ◌≤◌, List, [], ◌∷◌, map, length, take, drop, ℤ, Ok, Err, Result, slice_index}
+use Rattle.std.specs.Prelude.{◌≡◌, ℕ, suc, ◌+◌, ◌^◌, ◌<◌, List, [], ◌∷◌, map, length, take, drop, ℤ, Ok, Err, Result, slice_index}
 use Rattle.words.specs.declared.word.Payload.{Payload}
 use Rattle.words.specs.Words.{kind, payload, fields, minus_bit, unused_bits, top_field, accepted, refused}
 use Rattle.claim.specs.Kinds.{HIGH, END}
