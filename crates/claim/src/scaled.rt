@@ -121,7 +121,7 @@ impl Scaled {
         requires { cost.0 * scale.value < 2 ^ 63 }
         ensures { result ≡ int_le (pos (cost.0 * scale.value)) self.0 }
     {
-        (cost * scale).0 <= self.0
+        cost * scale <= self
     }
 
     // The claim test: whether this, divided by the denominator and cut, is at most the claim. Nothing is divided.
