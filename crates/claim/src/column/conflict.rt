@@ -29,12 +29,11 @@ fn set_ranks(lblocks: &[LBlock]) -> [usize; 64]
     requires { SetsFit lblocks.now }
     ensures { RankTable lblocks.now result }
 {
-    let used = used_sets(lblocks);
     let mut ranks = [0; 64];
     let mut count = 0;
-    for set in 0..64 {
+    for (set, used) in used_sets(lblocks).iter().enumerate() {
         ranks[set] = count;
-        if used[set] {
+        if *used {
             count += 1;
         }
     }
