@@ -1,6 +1,14 @@
 -- For code: a loop that looks for the first element that fails a test. Assumes nothing.
 use Rattle.std.proofs.Common.{◌≡◌, ℕ, zero, suc, ◌+◌, ◌<◌, ◌≤◌, Bool, true, false, cond, List, [], ◌∷◌, ◌++◌, map, length, get_or, drop, Some, None, Option, sym, refl, ap, ◌∙◌, subst, le_of_suc-le-suc, not-suc-le-zero, zero-add, arith}
-use Rattle.std.specs.List.{prefix_len}
+use denote.Param.Members.{Mut}
+use denote.Ref.{Bor}
+use Rattle.std.specs.declared.ops.Range.{Range}
+use Rattle.std.specs.Bool.{⊤}
+use Rattle.std.specs.Fn.{CalledAt}
+use Rattle.std.specs.Iterator.{YieldsThen}
+use Rattle.std.specs.List.{prefix_len, FoldsTo}
+use Rattle.std.proofs.iter.Yields.{nat_range_steps}
+use Rattle.std.proofs.lemmas.Iterator.{first_from_Range}
 use Rattle.std.specs.Option.{MatchOption, option_map}
 use Rattle.std.proofs.lemmas.List.{get_or-map, length-map, length-append}
 use Rattle.std.proofs.lemmas.List.Sums.{prefix_len_is, prefix_len-drop_yes, prefix_len-drop_no, prefix_len-drop_all}
@@ -37,21 +45,29 @@ get_or-each g n k d h = get_or-map g (below n) k 0 d (subst (λ m. k < m) (sym (
 pub length-each : {A : Type 0} (g : ℕ → A) (n : ℕ) → length (map g (below n)) ≡ n
 length-each g n = length-map (below n) g ∙ length-below n
 
--- What a search through the places below n answers, where the element at place k passes if t k.
-abbrev pub Searched : (ℕ → Bool) → ℕ → Option ℕ → Type 0
-Searched t n r = MatchOption r ((k : ℕ) → 0 ≤ k → k < n → t k ≡ true) (λ i. (0 ≤ i) × (i < n) × (t i ≡ false) × ((k : ℕ) → 0 ≤ k → k < i → t k ≡ true))
+-- a search by `find` through the places below n, where the element at place k passes if t k
+module _ {A F : Type 0} (g : Mut F (Bor ℕ × Unit {0}) Bool) (p : A → Bool) (u : Range ℕ) (c : F) (r : Option ℕ) where
+  abbrev Found : ℕ → Type 0
+  Found n =
+      (ks : List ℕ) × (j : F) × YieldsThen nat_range_steps (record { start = 0; end = n }) ks r u × FoldsTo (λ f k e. CalledAt g f k false e) c ks j × MatchOption r ⊤ (λ k. (e : F) × CalledAt g j k true e)
 
-pub low_at : {A : Type 0} (p : A → Bool) (xs : List A) (d : A) (t : ℕ → Bool) (n : ℕ) → n ≡ length xs → ((k : ℕ) → k < n → p (get_or xs k d) ≡ t k) → (r : Option ℕ) → Searched t n r → FirstLow p xs r
-low_at p xs d t n q same None h = prefix_len_is p xs (length xs) d (omega arith) (λ k l. let m : k < n = omega arith in same k m ∙ h k (omega arith) m) (λ l. absurd (omega arith))
-low_at p xs d t n q same (Some i) h =
-    let l : i < length xs = omega (arith, h.1) in
-    (prefix_len_is p xs i d (omega arith) (λ k m. same k (omega (arith, h.1)) ∙ h.3 k (omega arith) m) (λ m. same i h.1 ∙ h.2), l)
+  abbrev Tests : (ℕ → Bool) → Type 0
+  Tests t = ((k : ℕ) (e : F) → CalledAt g c k true e → t k ≡ false) × ((k : ℕ) (e : F) → CalledAt g c k false e → (e ≡ c) × (t k ≡ true))
 
-pub low_each : {A : Type 0} (p : A → Bool) (g : ℕ → A) (m n : ℕ) → n ≡ m → (r : Option ℕ) → Searched (λ k. p (g k)) n r → FirstLow p (map g (below m)) r
-low_each p g m n e = low_at p (map g (below m)) (g 0) (λ k. p (g k)) n (e ∙ sym (length-each g m)) (λ k l. ap p (get_or-each g m k (g 0) (omega arith)))
+  pub low_at : (xs : List A) (d : A) (t : ℕ → Bool) (n : ℕ) → n ≡ length xs → ((k : ℕ) → k < n → p (get_or xs k d) ≡ t k) → Found n → Tests t → FirstLow p xs r
+  low_at xs d t n q same ran tests = go r (first_from_Range _ u c r (λ k. t k ≡ false) (λ k. t k ≡ true) ran tests.0 tests.1)
+    where
+      go : (r : Option ℕ) → MatchOption r ((k : ℕ) → 0 ≤ k → k < n → t k ≡ true) (λ i. (0 ≤ i) × (i < n) × (t i ≡ false) × ((k : ℕ) → 0 ≤ k → k < i → t k ≡ true)) → FirstLow p xs r
+      go None h = prefix_len_is p xs (length xs) d (omega arith) (λ k l. let m : k < n = omega arith in same k m ∙ h k (omega arith) m) (λ l. absurd (omega arith))
+      go (Some i) h =
+          let l : i < length xs = omega (arith, h.1) in
+          (prefix_len_is p xs i d (omega arith) (λ k m. same k (omega (arith, h.1)) ∙ h.3 k (omega arith) m) (λ m. same i h.1 ∙ h.2), l)
 
-pub low_mapped : {A B : Type 0} (p : A → Bool) (f : B → A) (xs : List B) (d : B) (n : ℕ) → n ≡ length xs → (r : Option ℕ) → Searched (λ k. p (f (get_or xs k d))) n r → FirstLow p (map f xs) r
-low_mapped p f xs d n e = low_at p (map f xs) (f d) (λ k. p (f (get_or xs k d))) n (e ∙ sym (length-map xs f)) (λ k l. ap p (get_or-map f xs k d (f d) (omega arith)))
+  pub low_each : (f : ℕ → A) (m n : ℕ) → n ≡ m → Found n → Tests (λ k. p (f k)) → FirstLow p (map f (below m)) r
+  low_each f m n e = low_at (map f (below m)) (f 0) (λ k. p (f k)) n (e ∙ sym (length-each f m)) (λ k l. ap p (get_or-each f m k (f 0) (omega arith)))
+
+  pub low_mapped : {B : Type 0} (f : B → A) (xs : List B) (d : B) (n : ℕ) → n ≡ length xs → Found n → Tests (λ k. p (f (get_or xs k d))) → FirstLow p (map f xs) r
+  low_mapped f xs d n e = low_at (map f xs) (f d) (λ k. p (f (get_or xs k d))) n (e ∙ sym (length-map xs f)) (λ k l. ap p (get_or-map f xs k d (f d) (omega arith)))
 
 -- one list after another
 pub leading_on : {A : Type 0} (p : A → Bool) (xs ys : List A) → prefix_len p xs ≡ length xs → prefix_len p (xs ++ ys) ≡ length xs + prefix_len p ys

@@ -21,11 +21,7 @@ fn hit_cycles(lblocks: &[LBlock]) -> Cycles
     ensures cost { result.0 ≡ sum_by (λ v. v.hit) lblocks.now }
     ensures small { result.0 ≤ 2 ^ 23 }
 {
-    let mut cost = Cycles(0);
-    for lblock in lblocks {
-        cost = cost + Cycles(u64::from(lblock.hit));
-    }
-    cost
+    Cycles(lblocks.iter().map(|lblock| u64::from(lblock.hit)).sum())
 }
 
 impl Tableau<'_> {

@@ -1,6 +1,5 @@
-use Rattle.std.proofs.Common.{rules, ◌≡◌, ℕ, Bool, true, false, not, ◌||◌, length, get_or, pos, ◌∙◌, arith}
+use Rattle.std.proofs.Common.{rules, ◌≡◌, ℕ, Bool, true, not, ◌||◌, length, get_or, pos, ◌∙◌, arith}
 use lib.Signed.{le_z}
-use Rattle.std.proofs.lemmas.Iterator.{first_from_Range}
 use Rattle.std.proofs.lemmas.List.{length-map}
 use Rattle.sheet.specs.Rows.{rows, at_most, in_row}
 use Rattle.sheet.specs.View.{view}
@@ -18,5 +17,5 @@ returns c =
     let rs = rows (view c.args.sheet.now) in
     let t : ℕ → Bool = λ i. not (at_most (get_or rs i (in_row 0))) || le_z (pos 0) (get_or ys i (pos 0)) in
     let e : length ys ≡ length ps = length-map ps multiplier in
-    low_at as_tested (sign_tests ys rs) true t (length ps) (omega (arith, length-signs ys rs (e ∙ c.requires), e)) (λ k l. get_or-signs ys rs k (in_row 0) true (omega (arith, e)) (omega (arith, c.requires))) c.find.result
-    (first_from_Range _ _ _ c.find.result (λ i. t i ≡ false) (λ i. t i ≡ true) c.find.ensures.ran (λ i q k. search rules) (λ i q k. search rules))
+    low_at _ as_tested _ _ c.find.result (sign_tests ys rs) true t (length ps) (omega (arith, length-signs ys rs (e ∙ c.requires), e)) (λ k l. get_or-signs ys rs k (in_row 0) true (omega (arith, e)) (omega (arith, c.requires))) c.find.ensures.ran
+    (λ k e q. search rules, λ k e q. search rules)

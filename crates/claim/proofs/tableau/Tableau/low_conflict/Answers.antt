@@ -1,5 +1,4 @@
-use Rattle.std.proofs.Common.{rules, ◌≡◌, true, false, length, get_or, ap}
-use Rattle.std.proofs.lemmas.Iterator.{first_from_Range}
+use Rattle.std.proofs.Common.{rules, length, ap}
 use Rattle.sheet.specs.ConflictList.{conflicts}
 use Rattle.sheet.specs.Rows.{P}
 use Rattle.claim.specs.Tableau.{sheet_in, passes}
@@ -10,6 +9,4 @@ use Rattle.claim.proofs.tableau.Tableau.low_conflict.Goals as goal
 pub returns : goal.returns
 returns c =
     let t = c.args.self.now in
-    let cs = conflicts (sheet_in t) in
-    low_mapped (passes t) P cs no_conflict (length c.conflicts-conflicts.result.now) (ap length c.conflicts-conflicts.ensures.listed) c.find.result
-    (first_from_Range _ _ _ c.find.result (λ p. passes t (P (get_or cs p no_conflict)) ≡ false) (λ p. passes t (P (get_or cs p no_conflict)) ≡ true) c.find.ensures.ran (λ p q k. search rules) (λ p q k. search rules))
+    low_mapped _ (passes t) _ _ c.find.result P (conflicts (sheet_in t)) no_conflict (length c.conflicts-conflicts.result.now) (ap length c.conflicts-conflicts.ensures.listed) c.find.ensures.ran (λ k e q. search rules, λ k e q. search rules)
