@@ -1,8 +1,9 @@
 -- For code: the column of a block. Assumes nothing.
-use Rattle.std.proofs.Common.{◌≡◌, ℕ, suc, ◌+◌, ◌-◌, ◌*◌, ◌<◌, ◌≤◌, List, length, get_or, take, drop, ℤ, pos, ◌+ℤ◌, sum_by, sym, ap, ◌∙◌, subst, ap₂, arith}
+use Rattle.std.proofs.Common.{◌≡◌, ℕ, zero, suc, ◌+◌, ◌-◌, ◌*◌, ◌<◌, ◌≤◌, List, length, get_or, take, drop, ℤ, pos, sum_by, sym, refl, ap, ◌∙◌, subst, ap₂, arith}
 use lib.Signed.{le_z}
-use Rattle.std.proofs.lemmas.Int.{ints}
-use Rattle.std.proofs.lemmas.List.Sums.{sum_by_push}
+use Rattle.std.proofs.Math.Seq.{drop-cons}
+use Rattle.std.proofs.lemmas.List.{take-map, drop-map}
+use Rattle.std.proofs.lemmas.List.Sums.{sum_by-cons}
 use Rattle.words.specs.Lists.{up_from}
 use Rattle.sheet.specs.Sheet.{no_lblock}
 use Rattle.sheet.specs.BlockTable.{no_block, first_of, size_of, count_of, Holds}
@@ -10,36 +11,27 @@ use Rattle.sheet.specs.Drafts.{Items, sheet_of}
 use Rattle.sheet.specs.Rows.{N}
 use Rattle.sheet.specs.Sound.{Sound}
 use Rattle.sheet.proofs.Table.{fetches_are}
-use Rattle.sheet.proofs.SheetLists.{up_from_push}
 use Rattle.claim.specs.Items.{Block, LBlock, Fact}
+use Rattle.claim.specs.Parts.{multiplier, multipliers}
 use Rattle.claim.specs.Shares.{total, Multipliers, Sized, fact_share, block_sum, covered}
 use Rattle.claim.proofs.Totals.{total_block}
-use Rattle.claim.proofs.Weights.{total_more}
 
--- the loop over the l-blocks of a block: those from f on, before v
-pub share_none : (xs ds : List ℤ) (f : ℕ) → pos 0 ≡ total (take (f - f) (drop f xs)) +ℤ total (take (f - f) (drop f ds))
-share_none xs ds f = let e : f - f ≡ 0 = omega arith in sym (ap (λ n. total (take n (drop f xs)) +ℤ total (take n (drop f ds))) e)
+-- the n from f on, of the multipliers of a family and of the hits
+pub total_part : (f n : ℕ) (ps : List (List ℕ)) → total (multipliers (take ((f + n) - f) (drop f ps))) ≡ total (take n (drop f (multipliers ps)))
+total_part f n ps =
+    let e : (f + n) - f ≡ n = omega arith in
+    ap total (sym (take-map multiplier ((f + n) - f) (drop f ps)) ∙ ap₂ take e (sym (drop-map multiplier f ps)))
 
-pub share_more : (xs ds : List ℤ) (f v : ℕ) (s t a d : ℤ) → f ≤ v → v < length xs → v < length ds → s ≡ total (take (v - f) (drop f xs)) +ℤ total (take (v - f) (drop f ds))
-    → a ≡ get_or xs v (pos 0) → d ≡ get_or ds v (pos 0) → t ≡ s +ℤ (a +ℤ d) → t ≡ total (take ((v + 1) - f) (drop f xs)) +ℤ total (take ((v + 1) - f) (drop f ds))
-share_more xs ds f v s t a d l p q e g h k =
-    let n = v - f in
-    let m : (v + 1) - f ≡ n + 1 = omega arith in
-    let w : f + n ≡ v = omega arith in
-    let x : total (take (n + 1) (drop f xs)) ≡ total (take n (drop f xs)) +ℤ get_or xs v (pos 0) = total_more xs f n (omega arith) ∙ ap (λ i. total (take n (drop f xs)) +ℤ get_or xs i (pos 0)) w in
-    let y : total (take (n + 1) (drop f ds)) ≡ total (take n (drop f ds)) +ℤ get_or ds v (pos 0) = total_more ds f n (omega arith) ∙ ap (λ i. total (take n (drop f ds)) +ℤ get_or ds i (pos 0)) w in
-    let z : t ≡ total (take (n + 1) (drop f xs)) +ℤ total (take (n + 1) (drop f ds)) = omega (arith, ints) in
-    z ∙ sym (ap (λ i. total (take i (drop f xs)) +ℤ total (take i (drop f ds))) m)
+hits_from : (f n : ℕ) (vs : List LBlock) → f + n ≤ length vs → sum_by (λ v. v.hit) (take n (drop f vs)) ≡ sum_by (λ v. (get_or vs v no_lblock).hit) (up_from f n)
+hits_from f zero vs h = refl
+hits_from f (suc n) vs h =
+    rw (drop-cons vs f no_lblock (omega arith))
+    (sum_by-cons (λ v. v.hit) (get_or vs f no_lblock) (take n (drop (suc f) vs))
+    ∙ ap (λ m. (get_or vs f no_lblock).hit + m) (hits_from (suc f) n vs (omega arith))
+    ∙ sym (sum_by-cons (λ v. (get_or vs v no_lblock).hit) f (up_from (suc f) n)))
 
-pub cost_none : (g : ℕ → ℕ) (f : ℕ) → 0 ≡ sum_by g (up_from f (f - f))
-cost_none g f = let e : f - f ≡ 0 = omega arith in sym (ap (λ n. sum_by g (up_from f n)) e)
-
-pub cost_more : (g : ℕ → ℕ) (f v s t : ℕ) → f ≤ v → s ≡ sum_by g (up_from f (v - f)) → t ≡ s + g v → t ≡ sum_by g (up_from f ((v + 1) - f))
-cost_more g f v s t l e h =
-    let n = v - f in
-    let m : (v + 1) - f ≡ suc n = omega arith in
-    let w : f + n ≡ v = omega arith in
-    h ∙ ap₂ (λ a b. a + g b) e (sym w) ∙ sym (sum_by_push g (up_from f n) (f + n)) ∙ sym (ap (λ i. sum_by g (up_from f i)) m ∙ ap (sum_by g) (up_from_push f n))
+pub hits_part : (f n : ℕ) (vs : List LBlock) → f + n ≤ length vs → sum_by (λ v. v.hit) (take ((f + n) - f) (drop f vs)) ≡ sum_by (λ v. (get_or vs v no_lblock).hit) (up_from f n)
+hits_part f n vs h = let e : (f + n) - f ≡ n = omega arith in ap (λ m. sum_by (λ v. v.hit) (take m (drop f vs))) e ∙ hits_from f n vs h
 
 -- a block's l-blocks, by the table of blocks
 pub block_holds : (I : Items) → Sound I → (b : ℕ) → b < length I.blocks → Holds (sheet_of I) b (first_of I.blocks b) (count_of I.blocks b)

@@ -4,9 +4,16 @@ use lib.Signed.{le_z}
 use Rattle.sheet.specs.Sheet.{Sheet, lblock}
 use Rattle.sheet.specs.Conflict.{used}
 use Rattle.sheet.specs.Rows.{T, M, P}
-use Rattle.claim.specs.Items.{Edge, Conflict}
+use Rattle.claim.specs.Items.{Edge, Conflict, START}
 use Rattle.claim.specs.Shares.{Multipliers, Sized, loop_share, share_of_source, share_of_target, covered}
 use Rattle.claim.proofs.Totals.{total_edge, total_miss, total_conflict}
+
+-- what stands for an edge past the last
+abbrev pub no_edge : Edge
+no_edge = record { from = 0; to = 0 }
+
+abbrev pub no_conflict : Conflict
+no_conflict = record { set = 0; from = START; to = START }
 
 module _ (S : Sheet) (Y : Multipliers) (z : Sized S Y) (d : ℕ) where
   pub edge_test : (e f : Edge) → e ≡ f → (t : ℤ) → t ≡ (loop_share Y.loops S.loops e -ℤ get_or Y.ins e.to (pos 0)) -ℤ get_or Y.outs e.from (pos 0) → le_z (pos 0) t ≡ covered S Y d (T f)

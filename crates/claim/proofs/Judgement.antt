@@ -1,17 +1,20 @@
 -- For code: the judge's answer from what its parts found. Assumes nothing.
-use Rattle.std.proofs.Common.{◌≡◌, ℕ, Bool, true, false, cond, ltb, List, length, Some, None, sym, ap, ◌∙◌, arith}
+use Rattle.std.proofs.Common.{◌≡◌, ℕ, ◌+◌, ◌-◌, ◌*◌, Bool, true, false, cond, ltb, List, length, ℤ, pos, Some, None, Option, sym, ap, ◌∙◌, subst, ap₂, arith}
+use lib.Signed.{le_z}
 use Rattle.std.specs.List.{prefix_len}
 use Rattle.std.proofs.lemmas.Bool.{lt-ltb, le-ltb, cond-true, cond-false}
 use Rattle.words.specs.Words.{refusal, negative_multiplier, column_too_low, claim_too_low, Answer, accepted, refused}
 use Rattle.sheet.specs.Sheet.{Sheet}
 use Rattle.sheet.specs.ConflictList.{conflicts}
-use Rattle.sheet.specs.Rows.{rows, columns}
+use Rattle.sheet.specs.Rows.{rows, columns, right_side}
 use Rattle.claim.specs.Kinds.{Refusal}
-use Rattle.claim.specs.Certificate.{Certificate}
+use Rattle.claim.specs.Certificate.{Certificate, combined}
 use Rattle.claim.specs.Judge.{Verdict, passed, negative, low_column, low_claim, sign_tests, high_enough, claims_enough, judge}
 use Rattle.claim.specs.Judging.{JudgeLaws}
 use Rattle.claim.specs.ReadCertificate.{read_certificate, answered, judged}
-use Rattle.claim.specs.Shares.{as_tested, FirstLow}
+use Rattle.claim.specs.declared.tableau.Tableau.{Tableau}
+use Rattle.claim.specs.Shares.{all, as_tested, FirstLow}
+use Rattle.claim.specs.Tableau.{sheet_in, weights_in, passes}
 use Rattle.claim.proofs.CertificateFault.{certificate_first_fault, certificate_cut}
 use Rattle.claim.proofs.Judged.{judged_right}
 use Rattle.claim.proofs.Laws.{row_wise, monotone, judge_numbered}
@@ -29,6 +32,17 @@ judge_laws = record {
   row_wise = row_wise;
   monotone = monotone;
 }
+
+-- what was found by a tableau of the sheet and the certificate
+module _ (t : Tableau) (S : Sheet) (C : Certificate) (e : sheet_in t ≡ S) (d : t.scale.value ≡ C.D) (m : C.multipliers ≡ all (weights_in t)) where
+  pub found_column : (r : Option ℕ) → FirstLow (passes t) (columns (sheet_in t) (conflicts (sheet_in t))) r → FirstLow (high_enough S C) (columns S (conflicts S)) r
+  found_column r h =
+      subst (λ ys. FirstLow (high_enough S (record { W = C.W; D = C.D; multipliers = ys })) (columns S (conflicts S)) r) (sym m)
+      (subst (λ D. FirstLow (high_enough S (record { W = C.W; D = D; multipliers = all (weights_in t) })) (columns S (conflicts S)) r) d
+      (subst (λ S. FirstLow (high_enough S (record { W = C.W; D = t.scale.value; multipliers = all (weights_in t) })) (columns S (conflicts S)) r) e h))
+
+  pub found_claim : (x : ℤ) (b : Bool) → x ≡ combined (all (weights_in t)) (rows (sheet_in t)) (right_side (sheet_in t)) → b ≡ le_z x (pos (C.W * C.D + C.D - 1)) → claims_enough S C ≡ b
+  found_claim x b q k = ap (λ z. le_z z (pos (C.W * C.D + C.D - 1))) (ap₂ (λ ys S. combined ys (rows S) (right_side S)) m (sym e) ∙ sym q) ∙ sym k
 
 abbrev answer : Sheet → Answer Certificate → Answer ℕ
 answer S a = elim a [ refused r ↦ refused r | accepted C ↦ answered C.W (judge S (conflicts S) C) ]

@@ -1,8 +1,17 @@
 -- For code: a loop that looks for the first element that fails a test. Assumes nothing.
-use Rattle.std.proofs.Common.{◌≡◌, ℕ, zero, suc, ◌+◌, ◌<◌, ◌≤◌, Bool, true, false, cond, List, [], ◌∷◌, ◌++◌, map, length, get_or, drop, Some, None, sym, refl, ap, ◌∙◌, subst, le_of_suc-le-suc, not-suc-le-zero, zero-add, arith}
-use Rattle.std.specs.List.{prefix_len}
+use Rattle.std.proofs.Common.{◌≡◌, ℕ, zero, suc, ◌+◌, ◌<◌, ◌≤◌, Bool, true, false, cond, List, [], ◌∷◌, ◌++◌, map, length, get_or, drop, Some, None, Option, sym, refl, ap, ◌∙◌, subst, le_of_suc-le-suc, not-suc-le-zero, zero-add, arith}
+use denote.Param.Members.{Mut}
+use denote.Ref.{Bor}
+use Rattle.std.specs.declared.ops.Range.{Range}
+use Rattle.std.specs.Bool.{⊤}
+use Rattle.std.specs.Fn.{CalledAt}
+use Rattle.std.specs.Iterator.{YieldsThen}
+use Rattle.std.specs.List.{prefix_len, FoldsTo}
+use Rattle.std.proofs.iter.Yields.{nat_range_steps}
+use Rattle.std.proofs.lemmas.Iterator.{first_from_Range}
+use Rattle.std.specs.Option.{MatchOption, option_map}
 use Rattle.std.proofs.lemmas.List.{get_or-map, length-map, length-append}
-use Rattle.std.proofs.lemmas.List.Sums.{prefix_len-drop_yes, prefix_len-drop_no, prefix_len-drop_all}
+use Rattle.std.proofs.lemmas.List.Sums.{prefix_len_is, prefix_len-drop_yes, prefix_len-drop_no, prefix_len-drop_all}
 use Rattle.words.specs.Lists.{up_from, below}
 use Rattle.words.proofs.Lists.{length-below}
 use Rattle.claim.specs.Shares.{FirstLow}
@@ -36,6 +45,30 @@ get_or-each g n k d h = get_or-map g (below n) k 0 d (subst (λ m. k < m) (sym (
 pub length-each : {A : Type 0} (g : ℕ → A) (n : ℕ) → length (map g (below n)) ≡ n
 length-each g n = length-map (below n) g ∙ length-below n
 
+-- a search by `find` through the places below n, where the element at place k passes if t k
+module _ {A F : Type 0} (g : Mut F (Bor ℕ × Unit {0}) Bool) (p : A → Bool) (u : Range ℕ) (c : F) (r : Option ℕ) where
+  abbrev Found : ℕ → Type 0
+  Found n =
+      (ks : List ℕ) × (j : F) × YieldsThen nat_range_steps (record { start = 0; end = n }) ks r u × FoldsTo (λ f k e. CalledAt g f k false e) c ks j × MatchOption r ⊤ (λ k. (e : F) × CalledAt g j k true e)
+
+  abbrev Tests : (ℕ → Bool) → Type 0
+  Tests t = ((k : ℕ) (e : F) → CalledAt g c k true e → t k ≡ false) × ((k : ℕ) (e : F) → CalledAt g c k false e → (e ≡ c) × (t k ≡ true))
+
+  pub low_at : (xs : List A) (d : A) (t : ℕ → Bool) (n : ℕ) → n ≡ length xs → ((k : ℕ) → k < n → p (get_or xs k d) ≡ t k) → Found n → Tests t → FirstLow p xs r
+  low_at xs d t n q same ran tests = go r (first_from_Range _ u c r (λ k. t k ≡ false) (λ k. t k ≡ true) ran tests.0 tests.1)
+    where
+      go : (r : Option ℕ) → MatchOption r ((k : ℕ) → 0 ≤ k → k < n → t k ≡ true) (λ i. (0 ≤ i) × (i < n) × (t i ≡ false) × ((k : ℕ) → 0 ≤ k → k < i → t k ≡ true)) → FirstLow p xs r
+      go None h = prefix_len_is p xs (length xs) d (omega arith) (λ k l. let m : k < n = omega arith in same k m ∙ h k (omega arith) m) (λ l. absurd (omega arith))
+      go (Some i) h =
+          let l : i < length xs = omega (arith, h.1) in
+          (prefix_len_is p xs i d (omega arith) (λ k m. same k (omega (arith, h.1)) ∙ h.3 k (omega arith) m) (λ m. same i h.1 ∙ h.2), l)
+
+  pub low_each : (f : ℕ → A) (m n : ℕ) → n ≡ m → Found n → Tests (λ k. p (f k)) → FirstLow p (map f (below m)) r
+  low_each f m n e = low_at (map f (below m)) (f 0) (λ k. p (f k)) n (e ∙ sym (length-each f m)) (λ k l. ap p (get_or-each f m k (f 0) (omega arith)))
+
+  pub low_mapped : {B : Type 0} (f : B → A) (xs : List B) (d : B) (n : ℕ) → n ≡ length xs → Found n → Tests (λ k. p (f (get_or xs k d))) → FirstLow p (map f xs) r
+  low_mapped f xs d n e = low_at (map f xs) (f d) (λ k. p (f (get_or xs k d))) n (e ∙ sym (length-map xs f)) (λ k l. ap p (get_or-map f xs k d (f d) (omega arith)))
+
 -- one list after another
 pub leading_on : {A : Type 0} (p : A → Bool) (xs ys : List A) → prefix_len p xs ≡ length xs → prefix_len p (xs ++ ys) ≡ length xs + prefix_len p ys
 leading_on p [] ys e = sym (zero-add (prefix_len p ys))
@@ -63,3 +96,20 @@ low_then p xs ys k n e g h = (leading_on p xs ys g ∙ omega (arith, h.0), omega
 
 pub low_none : {A : Type 0} (p : A → Bool) (xs ys : List A) → FirstLow p xs None → FirstLow p ys None → FirstLow p (xs ++ ys) None
 low_none p xs ys g h = leading_on p xs ys g ∙ omega (arith, h, length-append xs ys)
+
+-- four lists one after another
+module _ {A : Type 0} (p : A → Bool) (xs ys zs us : List A) where
+  pub low_in_first : (k : ℕ) → FirstLow p xs (Some k) → FirstLow p (xs ++ ys ++ zs ++ us) (Some k)
+  low_in_first k h = low_first p (xs ++ ys ++ zs) us k (low_first p (xs ++ ys) zs k (low_first p xs ys k h))
+
+  module _ (f : FirstLow p xs None) where
+    pub low_in_second : (k n : ℕ) → n ≡ length xs → FirstLow p ys (Some k) → FirstLow p (xs ++ ys ++ zs ++ us) (Some (n + k))
+    low_in_second k n e h = low_first p (xs ++ ys ++ zs) us (n + k) (low_first p (xs ++ ys) zs (n + k) (low_then p xs ys k n e f h))
+
+    module _ (g : FirstLow p ys None) where
+      pub low_in_third : (k n : ℕ) → n ≡ length xs + length ys → FirstLow p zs (Some k) → FirstLow p (xs ++ ys ++ zs ++ us) (Some (n + k))
+      low_in_third k n e h = low_first p (xs ++ ys ++ zs) us (n + k) (low_then p (xs ++ ys) zs k n (omega (arith, length-append xs ys)) (low_none p xs ys f g) h)
+
+      pub low_in_fourth : (n : ℕ) → n ≡ length xs + length ys + length zs → FirstLow p zs None → (r : Option ℕ) → FirstLow p us r → FirstLow p (xs ++ ys ++ zs ++ us) (option_map (λ k. n + k) r)
+      low_in_fourth n e i None h = low_none p (xs ++ ys ++ zs) us (low_none p (xs ++ ys) zs (low_none p xs ys f g) i) h
+      low_in_fourth n e i (Some k) h = low_then p (xs ++ ys ++ zs) us k n (omega (arith, length-append xs ys, length-append (xs ++ ys) zs)) (low_none p (xs ++ ys) zs (low_none p xs ys f g) i) h

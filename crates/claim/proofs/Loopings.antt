@@ -1,5 +1,5 @@
 -- For code: what the loop rows add to the columns of the edges. Assumes nothing.
-use Rattle.std.proofs.Common.{◌≡◌, ℕ, zero, suc, ◌+◌, ◌<◌, ◌≤◌, Bool, true, false, cond, not, ◌&&◌, ◌||◌, eqb, ◌≢◌, ◌⊎◌, List, [], ◌∷◌, ◌++◌, map, length, get_or, take, set, replicate, ℤ, pos, ◌+ℤ◌, ◌-ℤ◌, ◌*ℤ◌, neg_ℤ, Some, None, filter, Option, sym, refl, ap, ◌∙◌, subst, ap₂, inl, inr, le_of_suc-le-suc, not-suc-le-zero, zero-add, arith}
+use Rattle.std.proofs.Common.{◌≡◌, ℕ, zero, suc, ◌+◌, ◌^◌, ◌<◌, ◌≤◌, Bool, true, false, cond, not, ◌&&◌, ◌||◌, eqb, ◌≢◌, ◌⊎◌, List, [], ◌∷◌, ◌++◌, map, length, get_or, take, set, replicate, ℤ, pos, ◌+ℤ◌, ◌-ℤ◌, ◌*ℤ◌, neg_ℤ, Some, None, filter, Option, sym, refl, ap, ◌∙◌, subst, ap₂, inl, inr, le_of_suc-le-suc, not-suc-le-zero, zero-add, arith}
 use lib.IntN.{*ℤ-zero}
 use Rattle.std.proofs.lemmas.List.{get_or-set_same, get_or-set_other, get_or-replicate, get_or_default, length-set, take_more, take_all}
 use Rattle.std.proofs.lemmas.Int.{ints}
@@ -15,9 +15,13 @@ use Rattle.sheet.specs.Sound.{Sound}
 use Rattle.sheet.proofs.Sound.{length-loops, get_or-loops}
 use Rattle.claim.specs.Items.{Edge}
 use Rattle.claim.specs.Certificate.{combined}
-use Rattle.claim.specs.Shares.{loop_share}
+use Rattle.claim.specs.Shares.{loop_share, Near}
 use Rattle.claim.specs.Tables.{HeaderAt, HeaderTable, SourceTable, comes_from}
+use Rattle.claim.specs.declared.column.looping.LoopTable.{LoopTable}
+use Rattle.sheet.specs.View.{items}
 use Rattle.claim.proofs.Ints.{*ℤ-negℤ}
+use Rattle.claim.proofs.Nears.{near_times}
+use Rattle.claim.proofs.Sheets.{sheet_sound}
 
 -- the table of headers
 pub no_headers : (hs : List Header) → HeaderTable hs 0 (replicate 128 None)
@@ -153,8 +157,8 @@ no_value k = omega (arith, ints, *ℤ-zero (pos k))
 back_value : (y : ℤ) (k : ℕ) → y *ℤ value true false k ≡ y
 back_value y k = let e : value true false k ≡ pos 1 = omega (arith, ints, *ℤ-zero (pos k)) in ap (λ z. y *ℤ z) e ∙ omega (arith, ints)
 
-entry_value : (y : ℤ) (k : ℕ) → y *ℤ value false true k ≡ pos 0 -ℤ (y *ℤ pos k)
-entry_value y k = let e : value false true k ≡ neg_ℤ (pos k) = omega (arith, ints) in ap (λ z. y *ℤ z) e ∙ *ℤ-negℤ y (pos k) ∙ omega (arith, ints)
+entry_value : (y : ℤ) (k : ℕ) → y *ℤ value false true k ≡ neg_ℤ (y *ℤ pos k)
+entry_value y k = let e : value false true k ≡ neg_ℤ (pos k) = omega (arith, ints) in ap (λ z. y *ℤ z) e ∙ *ℤ-negℤ y (pos k)
 
 -- a loop's back edges by the table
 sources_of : (bs : List BackEdge) (k s : ℕ) → any (eqb s) (backs_of bs k) ≡ comes_from bs k s
@@ -203,5 +207,18 @@ module _ (I : Items) (s : Sound I) (ys : List ℤ) (e : Edge) (d : Header) where
   share_back k h u v = share_one k h u true v ∙ back_value (get_or ys k (pos 0)) (get_or I.loops k d).bound
 
   pub share_entry : (k : ℕ) → k < length I.loops → (get_or I.loops k d).header ≡ e.to → comes_from I.backs k e.from ≡ false
-      → loop_share ys loops e ≡ pos 0 -ℤ (get_or ys k (pos 0) *ℤ pos (get_or I.loops k d).bound)
+      → loop_share ys loops e ≡ neg_ℤ (get_or ys k (pos 0) *ℤ pos (get_or I.loops k d).bound)
   share_entry k h u v = share_one k h u false v ∙ entry_value (get_or ys k (pos 0)) (get_or I.loops k d).bound
+
+-- the loop that the table of headers has for a block
+module _ (L : LoopTable) (b k : ℕ) (h : b < 128) (e : Some k ≡ get_or L.headers b None) where
+  abbrev I : Items
+  I = items L.tableau.sheet.now
+
+  pub found : HeaderAt I.loops (length I.loops) b (Some k)
+  found = subst (HeaderAt I.loops (length I.loops) b) (sym e) (L.headed b None h)
+
+  pub found_near : (ls : List Header) → ls ≡ I.loops → (d : Header) (y : ℤ) → Near (2 ^ 40) y → Near (2 ^ 54) (y *ℤ pos (get_or ls k d).bound)
+  found_near ls q d y n =
+      let f : (get_or ls k d).bound < 2 ^ 14 = subst (λ ls. (get_or ls k d).bound < 2 ^ 14) (sym q) ((sheet_sound L.tableau.sheet.now).loops_fit k d found.0).1 in
+      near_times (2 ^ 40) (2 ^ 14) (get_or ls k d).bound y (omega arith) n

@@ -11,4 +11,5 @@ pub mod Faults
 pub mod Parts
 pub mod Shares
 pub mod Tables
+pub mod Tableau
 pub mod Judging

@@ -1,5 +1,6 @@
 -- For the code that reads a certificate: what each of its parts is read as. Assumes nothing.
-use Rattle.std.specs.Prelude.{◌≡◌, ℕ, suc, ◌+◌, ◌^◌, ◌<◌, ◌≤◌, List, [], ◌∷◌, map, length, take, drop, ℤ, Ok, Err, Result, slice_index}
+use Rattle.std.specs.Prelude.{◌≡◌, ℕ, suc, ◌+◌, ◌^◌, ◌<◌, List, [], ◌∷◌, map, length, take, drop, ℤ, Ok, Err, Result, slice_index}
+use Rattle.words.specs.declared.reader.Reader.{Reader}
 use Rattle.words.specs.declared.word.Payload.{Payload}
 use Rattle.words.specs.Words.{kind, payload, fields, minus_bit, unused_bits, top_field, accepted, refused}
 use Rattle.claim.specs.Kinds.{HIGH, END}
@@ -26,6 +27,11 @@ Onward ws s i t j = read_from s (drop i ws) i ≡ read_from t (drop j ws) j
 abbrev pub Refuses : List ℕ → State → ℕ → ClaimFault → Type 0
 Refuses ws s i e = read_from s (drop i ws) i ≡ refused (claim_refusal e)
 
+-- A reader before and after a part, of which P says how it is read from a list: it goes on in the same list.
+pub record Reads {T : Type 0} (P : List ℕ → ℕ → Result T ClaimFault → ℕ → Type 0) (before : Reader) (r : Result T ClaimFault) (after : Reader) : Type 0 where
+  pub same : after.words ≡ before.words
+  pub read : P before.words.now before.at r after.at
+
 -- The HIGH at place i, where one is due.
 abbrev pub HighRead : List ℕ → ℕ → Result Payload ClaimFault → ℕ → Type 0
 HighRead ws i (Ok p) j = (i < length ws) × (kind (slice_index ws i) ≡ HIGH) × (p.0 ≡ payload (slice_index ws i)) × (unused_bits p.0 ≡ 0) × (j ≡ i + 1)
@@ -33,7 +39,7 @@ HighRead ws i (Err e) j = (d : Stand) (C : Certificate) → due d ≡ HIGH ∷ [
 
 -- D.
 abbrev pub ScaleRead : List ℕ → ℕ → Result Denominator ClaimFault → ℕ → Type 0
-ScaleRead ws i (Ok d) j = ((n : ℕ) (C : Certificate) → Onward ws (stands (at_claim n) C) i (stands (at_W n) (with_D C d.0)) j) × (1 ≤ d.0) × (d.0 < 2 ^ 20) × (i < length ws) × (j ≡ i + 1)
+ScaleRead ws i (Ok d) j = ((n : ℕ) (C : Certificate) → Onward ws (stands (at_claim n) C) i (stands (at_W n) (with_D C d.value)) j) × (i < length ws) × (j ≡ i + 1)
 ScaleRead ws i (Err e) j = (n : ℕ) (C : Certificate) → Refuses ws (stands (at_claim n) C) i e
 
 -- W.
@@ -55,10 +61,10 @@ EndRead ws i (Err e) = (C : Certificate) → Refuses ws (stands (at_pair 0) C) i
 
 -- The certificate that the code holds, whose multipliers stand in the caller's words.
 abbrev pub certificate_of : Held → Certificate
-certificate_of c = record { W = c.claim.0; D = c.scale.0; multipliers = multipliers c.pairs.now }
+certificate_of c = record { W = c.claim.0; D = c.scale.value; multipliers = multipliers c.pairs.now }
 
 -- A certificate for n rows, or the fault.
 abbrev pub CertificateRead : ℕ → List ℕ → Result Held ClaimFault → Type 0
 CertificateRead n ws (Ok c) =
-    (read_certificate n ws ≡ accepted (certificate_of c)) × (length c.pairs.now ≡ n) × (c.claim.0 < 2 ^ 40) × (1 ≤ c.scale.0) × (c.scale.0 < 2 ^ 20)
+    (read_certificate n ws ≡ accepted (certificate_of c)) × (length c.pairs.now ≡ n) × (c.claim.0 < 2 ^ 40)
 CertificateRead n ws (Err e) = read_certificate n ws ≡ refused (claim_refusal e)

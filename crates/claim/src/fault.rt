@@ -7,7 +7,7 @@ use words::refusal::{Layer, Refusal, Refuse, WordFault};
 
 // A fault of the word layer, whole; END where W or a pair is due, or HIGH where END is due, with the place of the word; a wrong HIGH, with
 // its place; the first at-most row with a negative multiplier; the first column that is too low; a claim that is too low.
-#[derive(Clone, Copy)]
+#[derive(Clone, Copy, PartialEq, Eq, Debug)]
 pub enum ClaimFault {
     Word(WordFault),
     WrongPairs(usize),

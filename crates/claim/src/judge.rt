@@ -1,21 +1,20 @@
 // Judging a certificate: its words, then signs, columns and the claim.
-ghost use Rattle.std.specs.Prelude.{◌≡◌, ◌^◌, ◌<◌, length, pos, IfOk, slice_index_or};
+ghost use Rattle.std.specs.Prelude.{◌≡◌, ◌<◌, length, IfOk, slice_index_or};
 ghost use Rattle.sheet.specs.Rows.{rows as row_list, at_most as says_at_most, right_side as right_side_of, in_row};
 ghost use Rattle.sheet.specs.View.{view};
 ghost use Rattle.claim.specs.Certificate.{combined};
 ghost use Rattle.claim.specs.Judge.{sign_tests};
 ghost use Rattle.claim.specs.Judging.{Judging, Covers, JudgeLaws};
 ghost use Rattle.claim.specs.Parts.{multipliers};
-ghost use Rattle.claim.specs.Shares.{total, Near, Sized, all, weights, FirstLow, as_tested};
+ghost use Rattle.claim.specs.Shares.{all, FirstLow, as_tested};
+ghost use Rattle.claim.specs.Tableau.{sheet_in, weights_in};
 
 use crate::amount::Cycles;
 use crate::certificate::read::read;
-use crate::column::low::low_column;
 use crate::fault::ClaimFault;
-use crate::rows::Rows;
-use crate::rows::divide::divide;
-use crate::rows::value::{at, multiplier};
+use crate::rows::value::{at, sum};
 use crate::scaled::Scaled;
+use crate::tableau::Tableau;
 use sheet::timing::Sheet;
 
 // Whether a row says `at most`: loops and facts, which follow one another, and misses, which come last.
@@ -38,34 +37,18 @@ fn negative_row(sheet: &Sheet, pairs: &[[u32; 2]]) -> Option<usize>
     requires { length pairs.now ≡ length (row_list (view sheet.now)) }
     ensures { FirstLow as_tested (sign_tests (multipliers pairs.now) (row_list (view sheet.now))) result }
 {
-    for (row, pair) in pairs.iter().enumerate() {
-        if at_most(sheet, row) && !multiplier(pair).covers(Scaled::ZERO) {
-            return Some(row);
-        }
-    }
-    None
+    (0..pairs.len()).find(|&row| at_most(sheet, row) && !at(pairs, row).covers(Scaled::ZERO))
 }
 
-// The multipliers of a family added up.
-fn sum(pairs: &[[u32; 2]]) -> Scaled
-    requires { length pairs.now < 65 }
-    ensures sum { result.0 ≡ total (multipliers pairs.now) }
-    ensures near { Near (2 ^ 47) result.0 }
-{
-    let mut sum = Scaled::ZERO;
-    for pair in pairs {
-        sum = sum + multiplier(pair);
+impl Tableau<'_> {
+    // The right sides times the multipliers: block 0's in row, the last block's out row, and the set rows.
+    fn right_side(&self) -> Scaled
+        ensures { result.0 ≡ combined (all (weights_in self.now)) (row_list (sheet_in self.now)) (right_side_of (sheet_in self.now)) }
+    {
+        let rows = self.rows;
+        let blocks = self.sheet.blocks().len();
+        at(rows.ins, 0) + at(rows.outs, blocks - 1) + sum(rows.sets)
     }
-    sum
-}
-
-// The right sides times the multipliers: block 0's in row, the last block's out row, and the set rows.
-fn right_side(sheet: &Sheet, rows: &Rows) -> Scaled
-    requires { Sized (view sheet.now) (weights rows.now) }
-    ensures { result.0 ≡ combined (all (weights rows.now)) (row_list (view sheet.now)) (right_side_of (view sheet.now)) }
-{
-    let blocks = sheet.blocks().len();
-    at(rows.ins, 0) + at(rows.outs, blocks - 1) + sum(rows.sets)
 }
 
 // The claim W of the certificate whose words these are, if it passes, or the first fault. Nothing is allocated.
@@ -74,17 +57,18 @@ pub fn judge(sheet: &Sheet, words: &[u32]) -> Result<Cycles, ClaimFault>
     ensures covers { IfOk result (λ w. Covers (view sheet.now) w.0) }
     ensures laws { JudgeLaws }
 {
-    // its contract also says what every sheet keeps
-    let _blocks = sheet.blocks();
     let certificate = read(words, sheet.rows())?;
-    let rows = divide(sheet, certificate.pairs);
+    let tableau = Tableau::new(sheet, certificate.pairs, certificate.scale);
     if let Some(row) = negative_row(sheet, certificate.pairs) {
         return Err(ClaimFault::NegativeMultiplier(row));
     }
-    if let Some(column) = low_column(sheet, &rows, certificate.scale) {
+    if let Some(column) = tableau.low_column() {
         return Err(ClaimFault::ColumnTooLow(column));
     }
-    if !right_side(sheet, &rows).within(certificate.claim, certificate.scale) {
+    if !tableau
+        .right_side()
+        .within(certificate.claim, certificate.scale)
+    {
         return Err(ClaimFault::ClaimTooLow);
     }
     Ok(certificate.claim)

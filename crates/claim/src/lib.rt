@@ -8,3 +8,4 @@ pub mod fault;
 pub mod judge;
 mod rows;
 mod scaled;
+mod tableau;

@@ -1,17 +1,35 @@
 // Amounts that are scaled by a certificate's denominator. Only multiplication by the denominator and the claim test lead from plain amounts
 // to these.
-ghost use Rattle.std.specs.Prelude.{◌≡◌, ◌+◌, ◌-◌, ◌*◌, ◌^◌, ◌<◌, ◌≤◌, pos, ◌+ℤ◌, ◌-ℤ◌, ◌*ℤ◌, FitsSigned, int_le};
+ghost use Rattle.std.specs.Prelude.{◌≡◌, ◌+◌, ◌-◌, ◌*◌, ◌^◌, ◌<◌, ◌≤◌, ◌⊎◌, pos, ◌+ℤ◌, ◌-ℤ◌, ◌*ℤ◌, neg_ℤ, FitsSigned, int_le, IfSome, IfNone};
 ghost use Rattle.std.specs.Int.{w64};
 
 use crate::amount::Cycles;
-use std::ops::{Add, Mul, Sub};
+use std::ops::{Add, Mul, Neg, Sub};
 
 // What a certificate's amounts are scaled by.
-#[derive(Clone, Copy)]
-pub struct Denominator(pub u32);
+#[derive(Clone, Copy, PartialEq, Eq, PartialOrd, Ord, Debug)]
+pub struct Denominator {
+    value: u32,
+    ghost positive: { 1 ≤ value },
+    ghost small: { value < 2 ^ 20 },
+}
+
+impl Denominator {
+    // The denominator of this value, if it is within the limits.
+    pub(crate) fn new(value: u32) -> Option<Denominator>
+        ensures some { IfSome result (λ d. d.value ≡ value) }
+        ensures none { IfNone result ((value < 1) ⊎ (1048575 < value)) }
+    {
+        if (1..=1_048_575).contains(&value) {
+            Some(Denominator { value })
+        } else {
+            None
+        }
+    }
+}
 
 // Cycles times the denominator.
-#[derive(Clone, Copy)]
+#[derive(Clone, Copy, PartialEq, Eq, PartialOrd, Ord, Debug)]
 pub struct Scaled(pub i64);
 
 impl Add<Cycles> for Cycles {
@@ -29,12 +47,12 @@ impl Add<Cycles> for Cycles {
 impl Mul<Denominator> for Cycles {
     type Output = Scaled;
 
-    ghost can_mul = { λ a d. a.0 * d.0 < 2 ^ 63 };
+    ghost can_mul = { λ a d. a.0 * d.value < 2 ^ 63 };
 
-    ghost mul_gives = { λ a d r. r.0 ≡ pos (a.0 * d.0) };
+    ghost mul_gives = { λ a d r. r.0 ≡ pos (a.0 * d.value) };
 
     fn mul(self, rhs: Denominator) -> Scaled {
-        Scaled((self.0 * u64::from(rhs.0)) as i64)
+        Scaled((self.0 * u64::from(rhs.value)) as i64)
     }
 }
 
@@ -62,6 +80,18 @@ impl Sub<Scaled> for Scaled {
     }
 }
 
+impl Neg for Scaled {
+    type Output = Scaled;
+
+    ghost can_neg = { λ a. FitsSigned w64 (neg_ℤ a.0) };
+
+    ghost neg_gives = { λ a r. r.0 ≡ neg_ℤ a.0 };
+
+    fn neg(self) -> Scaled {
+        Scaled(-self.0)
+    }
+}
+
 // A coefficient times a multiplier.
 impl Mul<u32> for Scaled {
     type Output = Scaled;
@@ -83,25 +113,23 @@ impl Scaled {
     pub(crate) fn covers(self, least: Scaled) -> bool
         ensures { result ≡ int_le least.0 self.0 }
     {
-        least.0 <= self.0
+        least <= self
     }
 
     // The column test: whether this is at least the cost, scaled. Nothing is divided.
     pub(crate) fn reaches(self, cost: Cycles, scale: Denominator) -> bool
-        requires product { cost.0 * scale.0 < 2 ^ 63 }
-        requires scale { 1 ≤ scale.0 }
-        ensures { result ≡ int_le (pos (cost.0 * scale.0)) self.0 }
+        requires { cost.0 * scale.value < 2 ^ 63 }
+        ensures { result ≡ int_le (pos (cost.0 * scale.value)) self.0 }
     {
-        (cost * scale).0 <= self.0
+        cost * scale <= self
     }
 
     // The claim test: whether this, divided by the denominator and cut, is at most the claim. Nothing is divided.
     pub(crate) fn within(self, claim: Cycles, scale: Denominator) -> bool
-        requires product { claim.0 * scale.0 < 2 ^ 60 }
-        requires scale { (1 ≤ scale.0) × (scale.0 < 2 ^ 20) }
-        ensures { result ≡ int_le self.0 (pos (claim.0 * scale.0 + scale.0 - 1)) }
+        requires { claim.0 * scale.value < 2 ^ 60 }
+        ensures { result ≡ int_le self.0 (pos (claim.0 * scale.value + scale.value - 1)) }
     {
-        let d = u64::from(scale.0);
+        let d = u64::from(scale.value);
         self.0 <= (claim.0 * d + d - 1) as i64
     }
 }

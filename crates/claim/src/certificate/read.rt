@@ -2,7 +2,7 @@
 ghost use Rattle.std.specs.Prelude.{◌≡◌, ◌+◌, ◌*◌, ◌≤◌, Bool, length, drop};
 ghost use Rattle.std.specs.Simd.{first_chunks};
 ghost use Rattle.words.specs.Words.{fields, top_field};
-ghost use Rattle.claim.specs.Parts.{HighRead, ScaleRead, ClaimRead, PairRead, EndRead, CertificateRead};
+ghost use Rattle.claim.specs.Parts.{Reads, HighRead, ScaleRead, ClaimRead, PairRead, EndRead, CertificateRead};
 
 use crate::amount::Cycles;
 use crate::certificate::Certificate;
@@ -21,40 +21,31 @@ pub(crate) fn magnitude(high: Payload, low: Payload) -> u64
 
 // The HIGH that is due here. END in its place is told apart from other kinds.
 fn read_high(reader: &mut Reader) -> Result<Payload, ClaimFault>
-    ensures same { reader.new.words ≡ reader.old.words }
-    ensures read { HighRead reader.old.words.now reader.old.at result reader.new.at }
+    ensures { Reads HighRead reader.old result reader.new }
 {
     let at = reader.place();
     let word = reader.next()?;
     match word.kind {
-        Kind::High => {}
-        Kind::End => return Err(ClaimFault::WrongPairs(at)),
-        _ => return Err(ClaimFault::Word(WordFault::NotDue(at))),
+        Kind::High if word.payload.unused() == 0 => Ok(word.payload),
+        Kind::High => Err(ClaimFault::WrongSign(at)),
+        Kind::End => Err(ClaimFault::WrongPairs(at)),
+        _ => Err(WordFault::NotDue(at).into()),
     }
-    if word.payload.unused() != 0 {
-        return Err(ClaimFault::WrongSign(at));
-    }
-    Ok(word.payload)
 }
 
 // The denominator, in a CLAIM.
 fn read_scale(reader: &mut Reader) -> Result<Denominator, ClaimFault>
-    ensures same { reader.new.words ≡ reader.old.words }
-    ensures read { ScaleRead reader.old.words.now reader.old.at result reader.new.at }
+    ensures { Reads ScaleRead reader.old result reader.new }
 {
     let at = reader.place();
     let word = reader.due(Kind::Claim)?;
-    let scale = word.payload.0;
-    if scale < 1 || scale > 1_048_575 {
-        return Err(ClaimFault::Word(WordFault::OutOfLimit(at)));
-    }
-    Ok(Denominator(scale))
+    let scale = Denominator::new(word.payload.0).ok_or(WordFault::OutOfLimit(at))?;
+    Ok(scale)
 }
 
 // The claim, which is not minus.
 fn read_claim(reader: &mut Reader) -> Result<Cycles, ClaimFault>
-    ensures same { reader.new.words ≡ reader.old.words }
-    ensures read { ClaimRead reader.old.words.now reader.old.at result reader.new.at }
+    ensures { Reads ClaimRead reader.old result reader.new }
 {
     let at = reader.place();
     let high = read_high(reader)?;
@@ -67,8 +58,7 @@ fn read_claim(reader: &mut Reader) -> Result<Cycles, ClaimFault>
 
 // The pair of a row, which is not minus zero.
 fn read_pair(reader: &mut Reader) -> Result<(), ClaimFault>
-    ensures same { reader.new.words ≡ reader.old.words }
-    ensures read { PairRead reader.old.words.now reader.old.at result reader.new.at }
+    ensures { Reads PairRead reader.old result reader.new }
 {
     let at = reader.place();
     let high = read_high(reader)?;
@@ -86,12 +76,10 @@ fn read_end(reader: &mut Reader) -> Result<(), ClaimFault>
     let at = reader.place();
     let word = reader.next()?;
     match word.kind {
-        Kind::End => {}
-        Kind::High => return Err(ClaimFault::WrongPairs(at)),
-        _ => return Err(ClaimFault::Word(WordFault::NotDue(at))),
+        Kind::End => Ok(reader.close(at, word.payload)?),
+        Kind::High => Err(ClaimFault::WrongPairs(at)),
+        _ => Err(WordFault::NotDue(at).into()),
     }
-    reader.close(at, word.payload)?;
-    Ok(())
 }
 
 // The pairs of so many rows, after CLAIM and W.

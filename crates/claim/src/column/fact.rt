@@ -4,7 +4,7 @@ ghost use Rattle.claim.specs.Parts.{multipliers};
 ghost use Rattle.claim.specs.Shares.{Near};
 ghost use Rattle.claim.specs.Tables.{FactFits, FactsFit, FactAdded, FactTable, AllNear};
 
-use crate::rows::value::at;
+use crate::rows::value::multiplier;
 use crate::scaled::Scaled;
 use sheet::parts::Fact;
 
@@ -28,8 +28,8 @@ pub(crate) fn fact_shares(facts: &[Fact], pairs: &[[u32; 2]]) -> [Scaled; 128]
     ensures near { AllNear (2 ^ 60) result }
 {
     let mut shares = [Scaled::ZERO; 128];
-    for (row, fact) in facts.iter().enumerate() {
-        add_fact(&mut shares, fact, at(pairs, row));
+    for (fact, pair) in facts.iter().zip(pairs) {
+        add_fact(&mut shares, fact, multiplier(pair));
     }
     shares
 }

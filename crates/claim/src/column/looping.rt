@@ -1,20 +1,23 @@
 // What the loop rows add to the columns of the edges.
-ghost use Rattle.std.specs.Prelude.{◌≡◌, ◌^◌, ◌<◌, ◌≤◌, false, [], length, None, slice_index_or};
-ghost use Rattle.sheet.specs.View.{view, items as items_in};
-ghost use Rattle.claim.specs.Shares.{Near, Sized, weights, loop_share};
-ghost use Rattle.claim.specs.Tables.{HeadersFit, HeaderTable, SourceTable};
+ghost use Rattle.std.specs.Prelude.{◌≡◌, ◌^◌, ◌<◌, false, [], length, None, slice_index_or};
+ghost use Rattle.sheet.specs.View.{items as items_in};
+ghost use Rattle.claim.specs.Shares.{Near, loop_share};
+ghost use Rattle.claim.specs.Tableau.{sheet_in, weights_in};
+ghost use Rattle.claim.specs.Tables.{HeadersFit, HeaderTable, HeaderTable-prop, SourceTable};
 
-use crate::rows::Rows;
 use crate::rows::value::at;
 use crate::scaled::Scaled;
+use crate::tableau::Tableau;
 use sheet::parts::{BackEdge, Edge, Loop};
-use sheet::timing::Sheet;
 
 // The loop of each header, by block, and the blocks that each loop's back edges come from.
 #[derive(Drop)]
-pub struct LoopTable {
+pub struct LoopTable<'a> {
+    pub(crate) tableau: Tableau<'a>,
     headers: [Option<usize>; 128],
     sources: [[bool; 128]; 32],
+    ghost headed: { HeaderTable (items_in tableau.sheet.now).loops (length (items_in tableau.sheet.now).loops) headers } by { HeaderTable-prop (items_in tableau.sheet.now).loops (length (items_in tableau.sheet.now).loops) headers },
+    ghost sourced: { SourceTable (items_in tableau.sheet.now).backs sources },
 }
 
 // The number of the loop that each block is the header of.
@@ -42,17 +45,15 @@ fn back_sources(backs: &[BackEdge]) -> [[bool; 128]; 32]
     sources
 }
 
-impl LoopTable {
-    // The loops of a sheet.
-    pub(crate) fn of(sheet: &Sheet) -> LoopTable
-        ensures headers { HeaderTable (items_in sheet.now).loops (length (items_in sheet.now).loops) result.headers }
-        ensures sources { SourceTable (items_in sheet.now).backs result.sources }
+impl<'a> LoopTable<'a> {
+    // The loops of a tableau's sheet.
+    pub(crate) fn of(tableau: &Tableau<'a>) -> LoopTable<'a>
+        ensures { result.tableau ≡ tableau.now }
     {
-        // its contract also says what every sheet keeps
-        let _blocks = sheet.blocks();
         LoopTable {
-            headers: loop_headers(sheet.loops()),
-            sources: back_sources(sheet.back_edges()),
+            tableau: *tableau,
+            headers: loop_headers(tableau.sheet.loops()),
+            sources: back_sources(tableau.sheet.back_edges()),
         }
     }
 
@@ -74,27 +75,19 @@ impl LoopTable {
 
     // What the loop rows add to an edge's column: the multiplier of the loop whose header it leads to, once for a back edge, minus the bound
     // times for an entry edge.
-    pub(crate) fn share(&self, sheet: &Sheet, rows: &Rows, edge: Edge) -> Scaled
-        requires headers { HeaderTable (items_in sheet.now).loops (length (items_in sheet.now).loops) self.now.headers }
-        requires sources { SourceTable (items_in sheet.now).backs self.now.sources }
-        requires sized { Sized (view sheet.now) (weights rows.now) }
-        requires from { edge.from < 128 }
-        requires to { edge.to < 128 }
-        ensures share { result.0 ≡ loop_share (weights rows.now).loops (view sheet.now).loops edge }
+    pub(crate) fn share(&self, edge: Edge) -> Scaled
+        requires { (edge.from < 128) × (edge.to < 128) }
+        ensures share { result.0 ≡ loop_share (weights_in self.now.tableau).loops (sheet_in self.now.tableau).loops edge }
         ensures near { Near (2 ^ 54) result.0 }
     {
-        // its contract also says what every sheet keeps
-        let _blocks = sheet.blocks();
-        match self.loop_of(edge.to) {
-            None => Scaled::ZERO,
-            Some(number) => {
-                let multiplier = at(rows.loops, number);
-                if self.comes_from(number, edge.from) {
-                    return multiplier;
-                }
-                let loops = sheet.loops();
-                Scaled::ZERO - multiplier * loops[number].bound
-            }
+        let Some(number) = self.loop_of(edge.to) else {
+            return Scaled::ZERO;
+        };
+        let multiplier = at(self.tableau.rows.loops, number);
+        if self.comes_from(number, edge.from) {
+            multiplier
+        } else {
+            -(multiplier * self.tableau.sheet.loops()[number].bound)
         }
     }
 }

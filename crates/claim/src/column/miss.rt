@@ -1,17 +1,15 @@
 // The column of an l-block: how often it misses.
-ghost use Rattle.std.specs.Prelude.{◌≡◌, ◌^◌, ◌<◌, ◌≤◌, map, length, slice_index_or};
+ghost use Rattle.std.specs.Prelude.{◌≡◌, ◌<◌, map, length, slice_index_or};
 ghost use Rattle.words.specs.Lists.{below};
 ghost use Rattle.sheet.specs.Rows.{M};
 ghost use Rattle.sheet.specs.Sheet.{no_lblock};
-ghost use Rattle.sheet.specs.View.{view};
-ghost use Rattle.claim.specs.Shares.{Sized, weights, covered, FirstLow};
+ghost use Rattle.claim.specs.Shares.{FirstLow};
+ghost use Rattle.claim.specs.Tableau.{sheet_in, passes};
 
 use crate::amount::Cycles;
-use crate::rows::Rows;
 use crate::rows::value::at;
-use crate::scaled::Denominator;
+use crate::tableau::Tableau;
 use sheet::parts::LBlock;
-use sheet::timing::Sheet;
 
 // The extra cycles of a miss.
 fn extra_cycles(lblocks: &[LBlock], v: usize) -> Cycles
@@ -21,30 +19,21 @@ fn extra_cycles(lblocks: &[LBlock], v: usize) -> Cycles
     Cycles(u64::from(lblocks[v].extra))
 }
 
-// Whether the column covers them.
-fn miss_covered(sheet: &Sheet, rows: &Rows, scale: Denominator, v: usize) -> bool
-    requires sized { Sized (view sheet.now) (weights rows.now) }
-    requires scale { (1 ≤ scale.0) × (scale.0 < 2 ^ 20) }
-    requires inside { v < length (view sheet.now).lblocks }
-    ensures { result ≡ covered (view sheet.now) (weights rows.now) scale.0 (M v) }
-{
-    // its contract also says what every sheet keeps
-    let _blocks = sheet.blocks();
-    let cost = extra_cycles(sheet.lblocks(), v);
-    at(rows.misses, v).reaches(cost, scale)
-}
-
-// The first l-block whose column does not.
-pub(crate) fn low_miss(sheet: &Sheet, rows: &Rows, scale: Denominator) -> Option<usize>
-    requires sized { Sized (view sheet.now) (weights rows.now) }
-    requires scale { (1 ≤ scale.0) × (scale.0 < 2 ^ 20) }
-    ensures { FirstLow (covered (view sheet.now) (weights rows.now) scale.0) (map M (below (length (view sheet.now).lblocks))) result }
-{
-    let lblocks = sheet.lblocks().len();
-    for v in 0..lblocks {
-        if !miss_covered(sheet, rows, scale, v) {
-            return Some(v);
-        }
+impl Tableau<'_> {
+    // Whether the column covers them.
+    fn miss_covered(&self, v: usize) -> bool
+        requires { v < length (sheet_in self.now).lblocks }
+        ensures { result ≡ passes self.now (M v) }
+    {
+        let cost = extra_cycles(self.sheet.lblocks(), v);
+        at(self.rows.misses, v).reaches(cost, self.scale)
     }
-    None
+
+    // The first l-block whose column does not.
+    pub(crate) fn low_miss(&self) -> Option<usize>
+        ensures { FirstLow (passes self.now) (map M (below (length (sheet_in self.now).lblocks))) result }
+    {
+        let lblocks = self.sheet.lblocks().len();
+        (0..lblocks).find(|&v| !self.miss_covered(v))
+    }
 }

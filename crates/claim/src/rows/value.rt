@@ -1,7 +1,7 @@
 // The multiplier of a row.
-ghost use Rattle.std.specs.Prelude.{◌≡◌, ◌^◌, ◌<◌, length, pos, slice_index_or};
+ghost use Rattle.std.specs.Prelude.{◌≡◌, ◌^◌, ◌<◌, ◌≤◌, length, pos, slice_index_or};
 ghost use Rattle.claim.specs.Parts.{multiplier as multiplier_of, multipliers};
-ghost use Rattle.claim.specs.Shares.{Near};
+ghost use Rattle.claim.specs.Shares.{total, Near};
 
 use crate::certificate::read::magnitude;
 use crate::scaled::Scaled;
@@ -29,4 +29,17 @@ pub(crate) fn at(pairs: &[[u32; 2]], row: usize) -> Scaled
     ensures near { Near (2 ^ 40) result.0 }
 {
     multiplier(&pairs[row])
+}
+
+// The multipliers of rows added up.
+pub(crate) fn sum(pairs: &[[u32; 2]]) -> Scaled
+    requires { length pairs.now ≤ 512 }
+    ensures sum { result.0 ≡ total (multipliers pairs.now) }
+    ensures near { Near (2 ^ 49) result.0 }
+{
+    let mut sum = Scaled::ZERO;
+    for pair in pairs {
+        sum = sum + multiplier(pair);
+    }
+    sum
 }

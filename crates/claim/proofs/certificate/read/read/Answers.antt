@@ -20,7 +20,7 @@ returns-in_err-claim c =
     let ws = c.args.words.now in
     let n = c.args.rows in
     let C = (start n).read in
-    let D = with_D C c.in_ok-scale.scale.0 in
+    let D = with_D C c.in_ok-scale.scale.value in
     let e = c.new-reader.ensures.0 in
     rw (p.1, p.2)
     (same_onward c.new-reader.result.words.now ws c.new-reader.result.at 0 c.read_scale.new.reader.at e c.new-reader.ensures.1 (start n) (stands (at_W n) D)
@@ -37,11 +37,11 @@ loop-row-init c =
     let u = c.read_scale.new.reader.words.now in
     let i = c.read_scale.new.reader.at in
     let j = c.read_claim.new.reader.at in
-    let d = c.in_ok-scale.scale.0 in
+    let d = c.in_ok-scale.scale.value in
     let w = c.in_ok-claim.claim.0 in
     let f = c.in_ok-scale.ensures.read in
     let g = c.in_ok-claim.ensures.read in (
-      none_taken ws c.args.rows w d i j (f.4 ∙ ap (λ k. k + 1) a)
+      none_taken ws c.args.rows w d i j (f.2 ∙ ap (λ k. k + 1) a)
           (λ m C. same_onward c.new-reader.result.words.now ws c.new-reader.result.at 0 i e a (stands (at_claim m) C) (stands (at_W m) (with_D C d)) (f.0 m C))
           (λ m C. same_onward u ws i i j s refl (stands (at_W m) C) (stands (at_pair m) (with_W C w)) (g.0 m C)) g.3 (omega (arith, g.2, ap length s)),
       ap (λ x. x.now) c.in_ok-claim.ensures.same ∙ s,
@@ -53,7 +53,7 @@ returns-in_err-read_pair c =
     let ws = c.args.words.now in
     let i = c.loop-row.reader.at in
     rw (p.1, p.2)
-    (one_refused ws c.args.rows c.in_ok-claim.claim.0 c.in_ok-scale.scale.0 c.loop-row._row i c.loop-row.invariant.0 c.loop-row-test.true (claim_refusal c.in_err-read_pair.field-0.0)
+    (one_refused ws c.args.rows c.in_ok-claim.claim.0 c.in_ok-scale.scale.value c.loop-row._row i c.loop-row.invariant.0 c.loop-row-test.true (claim_refusal c.in_err-read_pair.field-0.0)
     (λ m C. sym (same_read c.loop-row.reader.words.now ws i i c.loop-row.invariant.1 refl (stands (at_pair (suc m)) C)) ∙ c.in_err-read_pair.ensures.read m C))
 
 pub loop-row-preserved : goal.loop-row-preserved
@@ -64,7 +64,7 @@ loop-row-preserved c =
     let j = c.read_pair.new.reader.at in
     let t = c.in_ok-read_pair.ensures.read in
     let s = c.loop-row.invariant.1 in (
-      one_taken ws c.args.rows c.in_ok-claim.claim.0 c.in_ok-scale.scale.0 c.loop-row._row i c.loop-row.invariant.0 c.loop-row-test.true j
+      one_taken ws c.args.rows c.in_ok-claim.claim.0 c.in_ok-scale.scale.value c.loop-row._row i c.loop-row.invariant.0 c.loop-row-test.true j
           (λ m C. same_onward us ws i i j s refl (stands (at_pair (suc m)) C) (stands (at_pair m) (with_multiplier C (multiplier (take 2 (drop i ws))))) (t.0 m C ∙ ap (λ vs. read_from (stands (at_pair m) (with_multiplier C (multiplier (take 2 (drop i vs))))) (drop j us) j) s))
           (omega (arith, t.1, ap length s)) t.2,
       ap (λ x. x.now) c.in_ok-read_pair.ensures.same ∙ s,
@@ -76,7 +76,7 @@ returns-in_err-read_end c =
     let ws = c.args.words.now in
     let i = c.loop-row.reader.at in
     rw (p.1, p.2)
-    (end_refused ws c.args.rows c.in_ok-claim.claim.0 c.in_ok-scale.scale.0 c.loop-row._row i c.loop-row.invariant.0 c.loop-row-test.false (claim_refusal c.in_err-read_end.field-0.0)
+    (end_refused ws c.args.rows c.in_ok-claim.claim.0 c.in_ok-scale.scale.value c.loop-row._row i c.loop-row.invariant.0 c.loop-row-test.false (claim_refusal c.in_err-read_end.field-0.0)
     (λ C. sym (same_read c.loop-row.reader.words.now ws i i c.loop-row.invariant.1 refl (stands (at_pair 0) C)) ∙ c.in_err-read_end.ensures C))
 
 pub pairs-requires : goal.pairs-requires
@@ -86,11 +86,9 @@ pub returns : goal.returns
 returns c =
     let ws = c.args.words.now in
     let i = c.loop-row.reader.at in (
-      all_taken ws c.args.rows c.in_ok-claim.claim.0 c.in_ok-scale.scale.0 c.loop-row._row i c.loop-row.invariant.0 c.loop-row-test.false c.loop-row.auto._row-end
+      all_taken ws c.args.rows c.in_ok-claim.claim.0 c.in_ok-scale.scale.value c.loop-row._row i c.loop-row.invariant.0 c.loop-row-test.false c.loop-row.auto._row-end
           (λ C. sym (same_read c.loop-row.reader.words.now ws i i c.loop-row.invariant.1 refl (stands (at_pair 0) C)) ∙ c.in_ok-read_end.ensures.1 C)
           c.pairs.result.now c.pairs.ensures.listed,
       c.pairs.ensures.length,
       c.in_ok-claim.ensures.read.1,
-      c.in_ok-scale.ensures.read.1,
-      c.in_ok-scale.ensures.read.2,
     )

@@ -4,7 +4,7 @@ use Rattle.sheet.specs.Kept.{used_among}
 use Rattle.sheet.proofs.Used.{used_few}
 use Rattle.claim.proofs.Sets.{more_ranks, more_count}
 use Rattle.claim.proofs.column.conflict.set_ranks.Goals as goal
-use Rattle.claim.proofs.column.conflict.set_ranks.Goals.{then-used-set, else-used-set}
+use Rattle.claim.proofs.column.conflict.set_ranks.Goals.{then-used, else-used}
 
 pub loop-set-init : goal.loop-set-init
 loop-set-init c = (λ s h. absurd (not-suc-le-zero h), refl, refl)
@@ -18,10 +18,10 @@ loop-set-preserved c =
     let n = c.loop-set.set in
     let k = c.loop-set.count in
     let t = c.loop-set.ranks in
-    let e : c.if-used-set.count ≡ used_among vs (n + 1) =
-    elim c.if-used-set.branch [
-      | then-used-set w ↦ more_count vs n k c.if-used-set.count true true c.used_sets-used.result c.used_sets-used.ensures c.loop-set-test.true w.if-used-set.true c.loop-set.invariant.1 w.count-is
-      | else-used-set w ↦ more_count vs n k c.if-used-set.count true false c.used_sets-used.result c.used_sets-used.ensures c.loop-set-test.true w.if-used-set.false c.loop-set.invariant.1 (omega (arith, w.count-is))
+    let e : c.if-used.count ≡ used_among vs (n + 1) =
+    elim c.if-used.branch [
+      | then-used w ↦ more_count vs n k c.if-used.count true true c.used_sets.result c.used_sets.ensures c.loop-set-test.true w.if-used.true c.loop-set.invariant.1 w.count-is
+      | else-used w ↦ more_count vs n k c.if-used.count true false c.used_sets.result c.used_sets.ensures c.loop-set-test.true w.if-used.false c.loop-set.invariant.1 (omega (arith, w.count-is))
     ] in
     (more_ranks vs n k t c.loop-set.invariant.2 c.loop-set-test.true c.loop-set.invariant.1 c.loop-set.invariant.0, e, length-set t n k ∙ c.loop-set.invariant.2)
 

@@ -1,0 +1,36 @@
+// A sheet's linear program with a multiplier for each row.
+ghost use Rattle.std.specs.Prelude.{◌≡◌, length};
+ghost use Rattle.sheet.specs.Rows.{rows as row_list};
+ghost use Rattle.sheet.specs.View.{view};
+ghost use Rattle.claim.specs.Parts.{multipliers};
+ghost use Rattle.claim.specs.Shares.{Sized, all, weights};
+
+use crate::rows::Rows;
+use crate::rows::divide::divide;
+use crate::scaled::Denominator;
+use sheet::timing::Sheet;
+
+// The rows' multipliers, by families, are scaled by the denominator.
+#[derive(Clone, Copy)]
+pub struct Tableau<'a> {
+    pub(crate) sheet: &'a Sheet,
+    pub(crate) rows: Rows<'a>,
+    pub(crate) scale: Denominator,
+    ghost sized: { Sized (view sheet.now) (weights rows) },
+}
+
+impl<'a> Tableau<'a> {
+    // The tableau of a sheet, from the pairs of its rows.
+    pub(crate) fn new(sheet: &'a Sheet, pairs: &'a [[u32; 2]], scale: Denominator) -> Tableau<'a>
+        requires { length pairs.now ≡ length (row_list (view sheet.now)) }
+        ensures sheet { result.sheet.now ≡ sheet.now }
+        ensures whole { multipliers pairs.now ≡ all (weights result.rows) }
+        ensures scale { result.scale ≡ scale }
+    {
+        Tableau {
+            sheet,
+            rows: divide(sheet, pairs),
+            scale,
+        }
+    }
+}
