@@ -3,7 +3,7 @@ ghost use Rattle.std.specs.Prelude.{◌≡◌, ◌<◌, [], ◌∷◌, length, n
 ghost use Rattle.words.specs.Lists.{any};
 ghost use Rattle.sheet.specs.ConflictList.{conflicts_from, conflicts_of};
 ghost use Rattle.sheet.specs.Reads.{Found};
-ghost use Rattle.sheet.specs.Traversal.{sheet_of, Source, Reached, Added, seen_edge};
+ghost use Rattle.sheet.specs.Traversal.{sheet_of, Source, Reached, Flagged, Added, saw, seen_edge};
 
 use crate::bounded::BoundedVec;
 use crate::fault::SheetFault;
@@ -12,17 +12,24 @@ use crate::traversal::graph::Graph;
 use crate::traversal::reach::Reach;
 
 impl Reach {
-    // Lists the conflict edge to a node, which has number k, if the traversal saw it.
-    fn list_to(
-        &self,
-        k: usize,
-        to: Node,
-        out: &mut BoundedVec<Conflict, 4096>,
-    ) -> Result<(), SheetFault>
-        requires { k < length self.now.seen.list.items }
-        ensures { Added self.now.set out.old.list.items (seen_edge self.now k to) result out.new.list.items }
+    // Whether the traversal saw a node.
+    fn saw(&self, v: Node) -> bool
+        requires { Flagged self.now v }
+        ensures { result ≡ saw self.now v }
     {
-        if self.seen.as_slice()[k] {
+        match v {
+            Node::Start => false,
+            Node::At(k) => self.seen.as_slice()[k],
+            Node::End => self.ended,
+        }
+    }
+
+    // Lists the conflict edge to a node, if the traversal saw it.
+    fn list_to(&self, to: Node, out: &mut BoundedVec<Conflict, 4096>) -> Result<(), SheetFault>
+        requires { Flagged self.now to }
+        ensures { Added self.now.set out.old.list.items (seen_edge self.now to) result out.new.list.items }
+    {
+        if self.saw(to) {
             put(
                 out,
                 Conflict {
@@ -42,10 +49,10 @@ impl Reach {
     {
         for (v, b) in g.lblocks.iter().enumerate() {
             if b.set == self.set {
-                self.list_to(v, Node::At(v), out)?;
+                self.list_to(Node::At(v), out)?;
             }
         }
-        self.list_to(g.lblocks.len(), Node::End, out)
+        self.list_to(Node::End, out)
     }
 
     // Lists the conflict edges of a set from a node.
