@@ -1,10 +1,10 @@
 -- The front of a search: how it grows, and what it has seen when it is done. Assumes nothing.
-use Rattle.std.proofs.Common.{◌≡◌, ℕ, suc, ◌+◌, ◌<◌, ◌≤◌, Bool, true, false, cond, not, ◌⊎◌, List, [], ◌∷◌, ◌++◌, length, get_or, set, replicate, count_by, sym, refl, ap, ◌∙◌, subst, subst₂, inl, inr, ⊎_elim, arith, length-append, length-set}
+use Rattle.std.proofs.Common.{◌≡◌, ℕ, suc, ◌+◌, ◌<◌, ◌≤◌, Bool, true, false, cond, not, ◌⊎◌, List, [], ◌∷◌, ◌++◌, length, get_or, set, count_by, sym, refl, ap, ◌∙◌, subst, subst₂, inl, inr, ⊎_elim, arith, length-append, length-set}
 use Rattle.std.specs.List.{ContainsAt as Has, AllByRecursion}
-use Rattle.std.proofs.lemmas.List.{get_or-set_same, get_or-set_other, get_or_append_left, get_or_past, append-nil, length-replicate, get_or-replicate}
+use Rattle.std.proofs.lemmas.List.{get_or-set_same, get_or-set_other, get_or_append_left, append-nil}
 use Rattle.std.proofs.ByRecursion.{All-append, All-weaker, has_append_left, has_append_right, has_push}
-use Rattle.std.proofs.lemmas.List.Sums.{sum_by-set, count_by-le-length}
-use Rattle.std.proofs.lemmas.Bool.{cases_eq, cases_lt, both_ways, false≢true}
+use Rattle.std.proofs.lemmas.List.Sums.{sum_by-set}
+use Rattle.std.proofs.lemmas.Bool.{cases_eq, both_ways, false≢true}
 use Rattle.sheet.specs.Sheet.{Sheet}
 use Rattle.sheet.specs.Conflict.{Node, START, at, END, Arrow, Leads, one, more, in_set}
 use Rattle.sheet.specs.Traversal.{flagged, Front, Going, On, saw}
@@ -30,10 +30,6 @@ count_set seen k l f =
     let e = sum_by-set (λ x. cond (not x) 1 0) seen k true false l in
     grind (arith, e, f)
 
--- nothing is flagged
-unset : (n k : ℕ) → get_or (replicate n false) k false ≡ false
-unset n k = ⊎_elim (λ l. get_or-replicate n k false false l) (λ l. get_or_past (replicate n false) k false (omega (arith, length-replicate n false))) (cases_lt k n)
-
 -- one front after another
 pub on_trans : {S : Sheet} {r r' r'' : Reach} → On S r r' → On S r' r'' → On S r r''
 on_trans p q = record {
@@ -47,21 +43,6 @@ on_trans p q = record {
 
 pub on_leads : {S : Sheet} {r r' : Reach} {y : Node} → On S r r' → Leads S r.set r.from y → Leads S r'.set r'.from y
 on_leads {S} {y = y} o l = subst₂ (λ s u. Leads S s u y) (sym o.same_set) (sym o.same_from) l
-
--- a search begins
-pub front_none : (S : Sheet) (s : ℕ) (u : Node) → Front S s u (replicate (length S.lblocks) false) false []
-front_none S s u = record {
-  sized = length-replicate (length S.lblocks) false;
-  sound = none;
-  queued = λ k t out. absurd (both_ways _ (unset (length S.lblocks) k) t);
-  inner = tt;
-  room = omega (arith, count_by-le-length not (replicate (length S.lblocks) false), length-replicate (length S.lblocks) false);
-}
-  where
-    none : (v : Node) → flagged (replicate (length S.lblocks) false) false v ≡ true → Leads S s u v
-    none START t = absurd (false≢true t)
-    none (at k) t = absurd (both_ways _ (unset (length S.lblocks) k) t)
-    none END t = absurd (false≢true t)
 
 module _ (S : Sheet) (s : ℕ) (u : Node) (seen : List Bool) (ended : Bool) (queue : List ℕ) (k : ℕ) (f : Front S s u seen ended queue)
     (known : k < length S.lblocks) (leads : Leads S s u (at k)) (new : get_or seen k false ≡ false) where

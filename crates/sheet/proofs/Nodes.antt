@@ -1,7 +1,7 @@
 -- The arrows from START and from an l-block by the table of blocks. Assumes nothing.
 use Rattle.std.proofs.Common.{◌≡◌, ℕ, suc, ◌+◌, ◌<◌, ◌≤◌, ◌⊎◌, List, length, get_or, sym, refl, ap, ◌∙◌, subst, inl, inr, arith}
 use Rattle.std.specs.List.{ContainsAt as Has}
-use Rattle.std.proofs.ByRecursion.{has_get_or, All-get_or}
+use Rattle.std.proofs.ByRecursion.{has_get_or}
 use Rattle.sheet.specs.Sheet.{Sheet, Edge, lblock, WellFormed, last_block}
 use Rattle.sheet.specs.Walk.{edge}
 use Rattle.sheet.specs.Conflict.{Node, START, at, END, Arrow}
@@ -12,12 +12,6 @@ pub has_edge : (es : List Edge) (b i : ℕ) → i < length es → (get_or es i n
 has_edge es b i l own = subst (λ a. Has es (edge a (get_or es i no_edge).to)) own (has_get_or es i no_edge l)
 
 module _ (S : Sheet) (wf : WellFormed S) (first size : ℕ → ℕ) (table : Table S first size) where
-  pub first_in : (b : ℕ) → b < S.blocks → first b < length S.lblocks
-  first_in b l = omega (arith, (table.holds b l).fits)
-
-  pub to_in : (i : ℕ) → i < length S.edges → (get_or S.edges i no_edge).to < S.blocks
-  to_in i l = (All-get_or (λ e. (e.from < S.blocks) × (e.to < S.blocks)) S.edges i no_edge l wf.joins_blocks).1
-
   pub arrow_start : Arrow S START (at (first 0))
   arrow_start = arrow_table S wf first size table (from_start refl refl)
 

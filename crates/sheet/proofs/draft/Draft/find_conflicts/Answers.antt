@@ -1,15 +1,23 @@
+use Rattle.std.proofs.Common.{refl}
+use Rattle.sheet.specs.Drafts.{sheet_of}
+use Rattle.sheet.specs.Graph.{first_of, size_of}
 use Rattle.sheet.specs.Tried.{items_of}
-use Rattle.sheet.proofs.Finding.{find_formed, find_table, found_of}
+use Rattle.sheet.proofs.Finding.{found_of}
+use Rattle.sheet.proofs.Laid.{laid_table}
+use Rattle.sheet.proofs.ReadSheet.{parts_well_formed}
+use Rattle.sheet.proofs.SameGraph.{graph_formed, graph_table}
 use Rattle.sheet.proofs.draft.Draft.find_conflicts.Goals as goal
 
 pub find-requires-clause-formed : goal.find-requires-clause-formed
 find-requires-clause-formed c =
-    find_formed (items_of c.args.self.now) c.deref.result.now c.deref-2.result.now c.deref-3.result.now c.deref.ensures.value c.deref-2.ensures.value c.deref-3.ensures.value c.requires
+    let S = sheet_of (items_of c.args.self.now) in
+    rw (c.deref.ensures.value, c.deref-2.ensures.value, c.deref-3.ensures.value) (graph_formed S (parts_well_formed S c.requires.0))
 
 pub find-requires-clause-table : goal.find-requires-clause-table
 find-requires-clause-table c =
-    find_table (items_of c.args.self.now) c.deref.result.now c.deref-2.result.now c.deref-3.result.now c.deref.ensures.value c.deref-2.ensures.value c.deref-3.ensures.value c.requires
+    let I = items_of c.args.self.now in
+    let S = sheet_of I in
+    rw (c.deref.ensures.value, c.deref-2.ensures.value, c.deref-3.ensures.value) (graph_table S (first_of I.blocks) (size_of I.blocks) (laid_table S I.blocks c.requires.1 refl))
 
 pub returns : goal.returns
-returns c = found_of (items_of c.args.self.now) c.deref.result.now c.deref-2.result.now c.deref-3.result.now c.deref.ensures.value c.deref-2.ensures.value c.deref-3.ensures.value
-    c.find.result c.find.new.out.list.items c.find.ensures
+returns c = found_of (sheet_of (items_of c.args.self.now)) _ _ (rw (c.deref.ensures.value, c.deref-2.ensures.value, c.deref-3.ensures.value) at c.find.ensures)
