@@ -33,12 +33,12 @@ impl Traversal {
     }
 
     // The conflict edges of the blocks, l-blocks and edges go into `out`. Where they pass 4,096, the set with which they do is answered.
-    pub(crate) fn find<'a>(
+    pub(crate) fn find(
         &mut self,
         sets: usize,
-        blocks: &'a [Block],
-        lblocks: &'a [LBlock],
-        edges: &'a [Edge],
+        blocks: &[Block],
+        lblocks: &[LBlock],
+        edges: &[Edge],
         out: &mut ConflictList,
     ) -> Result<(), SheetFault>
         requires formed { WellFormed (graph_of sets (length blocks.now) lblocks.now edges.now) }

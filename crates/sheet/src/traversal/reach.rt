@@ -44,10 +44,9 @@ impl Reach {
             return;
         }
         self.seen.set(k, true);
-        if g.lblocks[k].set == self.set {
-            return;
+        if g.lblocks[k].set != self.set {
+            self.queue.push(k);
         }
-        self.queue.push(k);
     }
 
     // Sees the first l-block of each block that an edge leads to from block b.
@@ -79,10 +78,9 @@ impl Reach {
             return;
         }
         self.follow(g, b);
-        if b + 1 < g.blocks.len() {
-            return;
+        if b + 1 == g.blocks.len() {
+            self.ended = true;
         }
-        self.ended = true;
     }
 
     // Makes ready for a traversal.
@@ -120,6 +118,7 @@ impl Reach {
         ensures { Reached (sheet_of g.now) set from self.new }
     {
         self.begin(g, set, from);
+        // Kept: the queue grows while it is read, so no iterator can go over it.
         let mut head = 0;
         while let Some(&x) = self.queue.as_slice().get(head) {
             self.spread(g, x);

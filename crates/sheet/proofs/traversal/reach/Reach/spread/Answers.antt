@@ -44,8 +44,8 @@ module _ (g : Graph) (x : ℕ) (known : x < length g.lblocks.now) where
   crossing : end ≤ x + 1 → (t : ℕ) → Has g.edges.now (edge b t) → Arrow S (at x) (at (first t))
   crossing h = arrow_edge S g.ready.formed first size g.ready.table x b known refl (last h)
 
-  ending : end ≤ x + 1 → length g.blocks.now ≤ b + 1 → Arrow S (at x) END
-  ending h m = arrow_end S g.ready.formed first size g.ready.table x b known refl (last h) (let l = its_block in omega arith)
+  ending : end ≤ x + 1 → b + 1 ≡ length g.blocks.now → Arrow S (at x) END
+  ending h m = arrow_end S g.ready.formed first size g.ready.table x b known refl (last h) (omega arith)
 
   module _ (r : Reach) (y : Node) (a : Arrow S (at x) y) where
     cases : ((x < first b + size b) × (y ≡ at (suc x)))
@@ -76,18 +76,20 @@ returns-then-x-g-clause-saw c y a = saw_next c.args.g.now c.args.x c.requires.kn
 pub follow-requires-clause-leads : goal.follow-requires-clause-leads
 follow-requires-clause-leads c t h = c.requires.leads _ (crossing c.args.g.now c.args.x c.requires.known c.if-x-g.false t h)
 
-pub returns-then-b-g-clause-saw : goal.returns-then-b-g-clause-saw
-returns-then-b-g-clause-saw c y a =
-    saw_others c.args.g.now c.args.x c.requires.known c.follow.new.self y a c.if-x-g.false c.follow.ensures.saw (λ e. absurd (omega (arith, e, c.if-b-g.true)))
-
-pub returns-clause-on : goal.returns-clause-on
-returns-clause-on c =
+pub returns-then-b-g-clause-on : goal.returns-then-b-g-clause-on
+returns-then-b-g-clause-on c =
     let S = sheet_of c.args.g.now in
     let on = c.follow.ensures.on in
     on_trans on (on_ended S c.follow.new.self _ on.going
-    (on_leads on (c.requires.leads _ (ending c.args.g.now c.args.x c.requires.known c.if-x-g.false c.if-b-g.false))) refl refl refl refl refl)
+    (on_leads on (c.requires.leads _ (ending c.args.g.now c.args.x c.requires.known c.if-x-g.false c.if-b-g.true))) refl refl refl refl refl)
 
-pub returns-clause-saw : goal.returns-clause-saw
-returns-clause-saw c y a =
+pub returns-then-b-g-clause-saw : goal.returns-then-b-g-clause-saw
+returns-then-b-g-clause-saw c y a =
     let r = c.follow.new.self in
-    saw_others c.args.g.now c.args.x c.requires.known (record { set = r.set; from = r.from; seen = r.seen; ended = true; queue = r.queue }) y a c.if-x-g.false c.follow.ensures.saw (λ e. refl)
+    saw_others c.args.g.now c.args.x c.requires.known (record { set = r.set; from = r.from; seen = r.seen; ended = true; queue = r.queue }) y a c.if-x-g.false
+    c.follow.ensures.saw (λ e. refl)
+
+pub returns-else-b-g-clause-saw : goal.returns-else-b-g-clause-saw
+returns-else-b-g-clause-saw c y a =
+    saw_others c.args.g.now c.args.x c.requires.known c.follow.new.self y a c.if-x-g.false c.follow.ensures.saw
+    (λ e. absurd (c.if-b-g.false (omega (arith, e, c.args.g.now.ready.formed.starts))))
