@@ -10,12 +10,11 @@ use Rattle.sheet.specs.Sheet.{Sheet, lblock}
 use Rattle.sheet.specs.Conflict.{Node, START, at, END, in_set, used, used_sets, Conflict}
 use Rattle.sheet.specs.ConflictList.{conflicting, set_lblocks, members, conflicts_from, conflicts_of, conflicts}
 use Rattle.sheet.specs.ReadSheet.{passing, finished}
-use Rattle.sheet.specs.Traversal.{node, Reached, Added, seen_edge, edge_to, edge_at, edges_from, edges_of}
+use Rattle.sheet.specs.Traversal.{Reached, Added, seen_edge, edge_to, edge_at, edges_from, edges_of}
 use Rattle.sheet.specs.declared.traversal.reach.Reach.{Reach}
 use Rattle.sheet.specs.declared.fault.SheetFault.{SheetFault}
 use Rattle.sheet.specs.declared.fault.SheetFault.TheVariants.{TooManyConflicts}
 use Rattle.sheet.specs.Faults.{sheet_refusal}
-use Rattle.sheet.proofs.Nodes.{node_at}
 
 -- one part after another
 pub added_after : (s : ℕ) (xs a b zs : List Conflict) (r : Result (Unit {0}) SheetFault) (ys : List Conflict) → zs ≡ xs ++ a → Added s zs b r ys → Added s xs (a ++ b) r ys
@@ -88,12 +87,12 @@ module _ (S : Sheet) where
   pub all_parts : joined (edges_of S) (below S.sets) ≡ conflicts S
   all_parts = sym (joined_kept (used S) (conflicts_of S) (below S.sets))
 
-  -- what a traversal that is done tells of a node's flag
-  pub seen_to : (r : Reach) → Reached S r.set r.from r → (k : ℕ) (v : Node) → k ≤ n → node S k ≡ v → seen_edge r k v ≡ edge_to S r.set r.from v
-  seen_to r h k v l is = ap (λ b. cond b (record { set = r.set; from = r.from; to = v } ∷ []) []) (h.found k l ∙ ap (conflicting S r.set r.from) is)
+  -- what a traversal that is done tells of a node
+  pub seen_to : (r : Reach) → Reached S r.set r.from r → (v : Node) → seen_edge r v ≡ edge_to S r.set r.from v
+  seen_to r h v = ap (λ b. cond b (record { set = r.set; from = r.from; to = v } ∷ []) []) (h.found v)
 
-  pub seen_at : (r : Reach) → Reached S r.set r.from r → (k : ℕ) → k < n → (lblock S k).set ≡ r.set → seen_edge r k (at k) ≡ edge_at S r.set r.from k
-  seen_at r h k l own = seen_to r h k (at k) (omega arith) (node_at S k l) ∙ sym (cond-true (in_set S r.set (at k)) _ [] (eq-eqb _ r.set own))
+  pub seen_at : (r : Reach) → Reached S r.set r.from r → (k : ℕ) → (lblock S k).set ≡ r.set → seen_edge r (at k) ≡ edge_at S r.set r.from k
+  seen_at r h k own = seen_to r h (at k) ∙ sym (cond-true (in_set S r.set (at k)) _ [] (eq-eqb _ r.set own))
 
   pub other_at : (s k : ℕ) (u : Node) → (lblock S k).set ≢ s → edge_at S s u k ≡ []
   other_at s k u other = cond-false (in_set S s (at k)) _ [] (ne_eqb _ s other)

@@ -1,47 +1,17 @@
--- Nodes by number, and the arrows from an l-block by the table of blocks. Assumes nothing.
-use Rattle.std.proofs.Common.{◌≡◌, ℕ, suc, ◌+◌, ◌<◌, ◌≤◌, Bool, true, false, ltb, ◌⊎◌, List, length, get_or, sym, refl, ap, ◌∙◌, subst, inl, inr, ⊎_elim, arith}
+-- The arrows from START and from an l-block by the table of blocks. Assumes nothing.
+use Rattle.std.proofs.Common.{◌≡◌, ℕ, suc, ◌+◌, ◌<◌, ◌≤◌, ◌⊎◌, List, length, get_or, sym, refl, ap, ◌∙◌, subst, inl, inr, arith}
 use Rattle.std.specs.List.{ContainsAt as Has}
-use Rattle.std.proofs.ByRecursion.{has_get_or, All-get_or}
-use Rattle.std.proofs.lemmas.Bool.{ltb-true, ltb-false}
+use Rattle.std.proofs.ByRecursion.{has_get_or}
 use Rattle.sheet.specs.Sheet.{Sheet, Edge, lblock, WellFormed, last_block}
 use Rattle.sheet.specs.Walk.{edge}
 use Rattle.sheet.specs.Conflict.{Node, START, at, END, Arrow}
 use Rattle.sheet.specs.Graph.{no_edge, Table}
-use Rattle.sheet.specs.Traversal.{node}
 use Rattle.sheet.proofs.Table.{TableArrow, from_start, along, across, to_end, table_arrow, arrow_table, ends_of}
-
-module _ (S : Sheet) where
-  pub node_cases : (k : ℕ) → ((k < length S.lblocks) × (node S k ≡ at k)) ⊎ ((length S.lblocks ≤ k) × (node S k ≡ END))
-  unfolding node
-  node_cases k = go (ltb k (length S.lblocks)) refl
-    where
-      go : (b : Bool) → ltb k (length S.lblocks) ≡ b
-          → ((k < length S.lblocks) × (elim b [ true ↦ at k | false ↦ END ] ≡ at k)) ⊎ ((length S.lblocks ≤ k) × (elim b [ true ↦ at k | false ↦ END ] ≡ END))
-      go true e = inl (ltb-true k (length S.lblocks) e, refl)
-      go false e = inr (ltb-false k (length S.lblocks) e, refl)
-
-  pub node_at : (k : ℕ) → k < length S.lblocks → node S k ≡ at k
-  node_at k l = ⊎_elim (λ h. h.1) (λ h. absurd (omega (arith, h.0))) (node_cases k)
-
-  pub node_end : node S (length S.lblocks) ≡ END
-  node_end = ⊎_elim (λ h. absurd (omega (arith, h.0))) (λ h. h.1) (node_cases (length S.lblocks))
-
-  pub at_number : (k m : ℕ) → node S k ≡ at m → k ≡ m
-  at_number k m e = ⊎_elim (λ h. let q = h.1 in cc) (λ h. let q = h.1 in let z : ◌≡◌ {A = ℕ} 0 1 = cc in absurd (omega arith)) (node_cases k)
-
-  pub end_number : (k : ℕ) → k ≤ length S.lblocks → node S k ≡ END → k ≡ length S.lblocks
-  end_number k l e = ⊎_elim (λ h. let q = h.1 in let z : ◌≡◌ {A = ℕ} 0 1 = cc in absurd (omega arith)) (λ h. omega (arith, h.0)) (node_cases k)
 
 pub has_edge : (es : List Edge) (b i : ℕ) → i < length es → (get_or es i no_edge).from ≡ b → Has es (edge b (get_or es i no_edge).to)
 has_edge es b i l own = subst (λ a. Has es (edge a (get_or es i no_edge).to)) own (has_get_or es i no_edge l)
 
 module _ (S : Sheet) (wf : WellFormed S) (first size : ℕ → ℕ) (table : Table S first size) where
-  pub first_in : (b : ℕ) → b < S.blocks → first b < length S.lblocks
-  first_in b l = omega (arith, (table.holds b l).fits)
-
-  pub to_in : (i : ℕ) → i < length S.edges → (get_or S.edges i no_edge).to < S.blocks
-  to_in i l = (All-get_or (λ e. (e.from < S.blocks) × (e.to < S.blocks)) S.edges i no_edge l wf.joins_blocks).1
-
   pub arrow_start : Arrow S START (at (first 0))
   arrow_start = arrow_table S wf first size table (from_start refl refl)
 

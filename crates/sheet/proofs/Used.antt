@@ -1,8 +1,10 @@
--- Counting the used sets, one set after another. Assumes nothing.
-use Rattle.std.proofs.Common.{◌≡◌, ℕ, zero, suc, ◌+◌, ◌≤◌, Bool, true, false, cond, eqb, List, [], ◌∷◌, length, filter, sym, refl, ap, ◌∙◌, add-one, arith}
+-- Counting the used sets: one set after another, and no more than there are sets. Assumes nothing.
+use Rattle.std.proofs.Common.{◌≡◌, ℕ, suc, ◌+◌, ◌≤◌, Bool, true, false, cond, eqb, List, [], ◌∷◌, length, filter, sym, refl, ap, ◌∙◌, add-one, arith}
 use Rattle.std.proofs.lemmas.List.{length-append}
 use Rattle.std.proofs.lemmas.List.Elements.{filter-append}
+use Rattle.std.proofs.lemmas.List.Sums.{length-filter, count_by-le-length}
 use Rattle.words.specs.Lists.{below, any}
+use Rattle.words.proofs.Lists.{length-below}
 use Rattle.sheet.specs.Sheet.{LBlock}
 use Rattle.sheet.specs.Kept.{used_among}
 use Rattle.sheet.proofs.SheetLists.{below_push}
@@ -21,9 +23,6 @@ used_more vs n t e =
     one false = refl
 
 pub used_few : (vs : List LBlock) (n : ℕ) → used_among vs n ≤ n
-used_few vs zero = omega arith
-used_few vs (suc n) = go (any (λ b. eqb b.set n) vs) (used_more vs n (any (λ b. eqb b.set n) vs) refl) (used_few vs n)
-  where
-    go : (b : Bool) → used_among vs (n + 1) ≡ used_among vs n + cond b 1 0 → used_among vs n ≤ n → used_among vs (suc n) ≤ suc n
-    go true e h = omega (arith, ap (used_among vs) (add-one n))
-    go false e h = omega (arith, ap (used_among vs) (add-one n))
+used_few vs n =
+    let has : ℕ → Bool = λ s. any (λ (b : LBlock). eqb b.set s) vs in
+    omega (arith, length-filter has (below n), count_by-le-length has (below n), length-below n)

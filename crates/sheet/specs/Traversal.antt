@@ -1,5 +1,5 @@
 -- What a traversal of the fetch graph keeps: flags of the nodes that it saw, and a queue of those to go on from. Assumes nothing.
-use Rattle.std.specs.Prelude.{◌≡◌, ℕ, suc, ◌+◌, ◌<◌, ◌≤◌, Bool, true, false, cond, not, List, [], ◌∷◌, ◌++◌, length, Ok, Err, Result, count_by, nat_lt, slice_index, slice_index_or}
+use Rattle.std.specs.Prelude.{◌≡◌, ℕ, ◌+◌, ◌<◌, ◌≤◌, Bool, true, false, cond, not, List, [], ◌∷◌, ◌++◌, length, Ok, Err, Result, count_by, slice_index, slice_index_or}
 use Rattle.std.specs.List.{ContainsAt as Has, AllByRecursion}
 use Rattle.sheet.specs.declared.traversal.graph.Graph.{Graph}
 use Rattle.sheet.specs.declared.traversal.reach.Reach.{Reach}
@@ -10,49 +10,53 @@ use Rattle.sheet.specs.Conflict.{Node, START, at, END, Leads, in_set, used, Conf
 use Rattle.sheet.specs.ConflictList.{conflicting, conflicts_from, conflicts_of}
 use Rattle.sheet.specs.Graph.{graph_of}
 
--- the node with a number: the l-blocks have theirs, and END the one after
-unfoldable pub node : Sheet → ℕ → Node
-node S k = elim (nat_lt k (length S.lblocks)) [ true ↦ at k | false ↦ END ]
+-- whether a node is flagged
+abbrev pub flagged : List Bool → Bool → Node → Bool
+flagged seen ended START = false
+flagged seen ended (at k) = slice_index_or seen k false
+flagged seen ended END = ended
 
 -- The nodes seen so far in a traversal from u that goes on after no l-block of set s; those that it goes on from are queued as they are seen.
-pub record Front (S : Sheet) (s : ℕ) (u : Node) (seen : List Bool) (queue : List ℕ) : Type 0 where
-  pub sized : length seen ≡ suc (length S.lblocks)
-  pub sound : (k : ℕ) → k < length seen → slice_index_or seen k false ≡ true → Leads S s u (node S k)
-  pub queued : (k : ℕ) → k < length S.lblocks → slice_index_or seen k false ≡ true → in_set S s (at k) ≡ false → Has queue k
+pub record Front (S : Sheet) (s : ℕ) (u : Node) (seen : List Bool) (ended : Bool) (queue : List ℕ) : Type 0 where
+  pub sized : length seen ≡ length S.lblocks
+  pub sound : (v : Node) → flagged seen ended v ≡ true → Leads S s u v
+  pub queued : (k : ℕ) → slice_index_or seen k false ≡ true → in_set S s (at k) ≡ false → Has queue k
   pub inner : AllByRecursion (λ q. (q < length S.lblocks) × (in_set S s (at q) ≡ false) × (slice_index_or seen q false ≡ true)) queue
-  pub room : length queue + count_by not seen ≤ suc (length S.lblocks)
-
--- a front that has grown by nodes seen and nodes queued
-pub record Grown (seen seen' : List Bool) (queue queue' : List ℕ) : Type 0 where
-  pub seen_kept : (k : ℕ) → slice_index_or seen k false ≡ true → slice_index_or seen' k false ≡ true
-  pub longer : length queue ≤ length queue'
-  pub queue_kept : (i : ℕ) → i < length queue → slice_index queue' i ≡ slice_index queue i
+  pub room : length queue + count_by not seen ≤ length S.lblocks
 
 -- the sheet of a graph
 abbrev pub sheet_of : Graph → Sheet
 sheet_of g = graph_of g.sets (length g.blocks.now) g.lblocks.now g.edges.now
 
+-- whether the traversal saw a node
+abbrev pub saw : Reach → Node → Bool
+saw r v = flagged r.seen.list.items r.ended v
+
 -- a traversal under way
 abbrev pub Going : Sheet → Reach → Type 0
-Going S r = Front S r.set r.from r.seen.list.items r.queue.list.items
+Going S r = Front S r.set r.from r.seen.list.items r.ended r.queue.list.items
 
--- it went on, by as much as it grew
+-- it went on: more nodes may be seen, and more queued
 pub record On (S : Sheet) (r r' : Reach) : Type 0 where
   pub going : Going S r'
   pub same_set : r'.set ≡ r.set
   pub same_from : r'.from ≡ r.from
-  pub grown : Grown r.seen.list.items r'.seen.list.items r.queue.list.items r'.queue.list.items
-
--- whether the traversal saw node k
-abbrev pub saw : Reach → ℕ → Bool
-saw r k = slice_index_or r.seen.list.items k false
+  pub kept : (v : Node) → saw r v ≡ true → saw r' v ≡ true
+  pub longer : length r.queue.list.items ≤ length r'.queue.list.items
+  pub queue_kept : (i : ℕ) → i < length r.queue.list.items → slice_index r'.queue.list.items i ≡ slice_index r.queue.list.items i
 
 -- a traversal that is done: it saw the nodes that a path leads to from u with no l-block of set s strictly inside
 pub record Reached (S : Sheet) (s : ℕ) (u : Node) (r : Reach) : Type 0 where
   pub set_is : r.set ≡ s
   pub from_is : r.from ≡ u
-  pub sized : length r.seen.list.items ≡ suc (length S.lblocks)
-  pub found : (k : ℕ) → k ≤ length S.lblocks → saw r k ≡ conflicting S s u (node S k)
+  pub sized : length r.seen.list.items ≡ length S.lblocks
+  pub found : (v : Node) → saw r v ≡ conflicting S s u v
+
+-- a node that has a flag
+abbrev pub Flagged : Reach → Node → Type 0
+Flagged r START = Unit {0}
+Flagged r (at k) = k < length r.seen.list.items
+Flagged r END = Unit {0}
 
 -- where a traversal can start
 abbrev pub Source : Sheet → Node → Type 0
@@ -65,9 +69,9 @@ abbrev pub Added : ℕ → List Conflict → List Conflict → Result (Unit {0})
 Added s xs added (Ok u) ys = ys ≡ xs ++ added
 Added s xs added (Err e) ys = (4096 < length xs + length added) × (e ≡ TooManyConflicts s)
 
--- the conflict edge to a node, by the flag of its number
-abbrev pub seen_edge : Reach → ℕ → Node → List Conflict
-seen_edge r k v = cond (saw r k) (record { set = r.set; from = r.from; to = v } ∷ []) []
+-- the conflict edge to a node, if the traversal saw it
+abbrev pub seen_edge : Reach → Node → List Conflict
+seen_edge r v = cond (saw r v) (record { set = r.set; from = r.from; to = v } ∷ []) []
 
 -- the conflict edge of a set from one node to another, if there is one; that to an l-block, if it is of the set
 abbrev pub edge_to : Sheet → ℕ → Node → Node → List Conflict

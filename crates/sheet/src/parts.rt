@@ -1,4 +1,5 @@
 // The items of a timing sheet. Each sort of item is numbered from 0 as it comes.
+use crate::bounded::BoundedVec;
 
 // A basic block: the number of its first l-block, and how many it has. They follow one another.
 #[derive(Clone, Copy, PartialEq, Eq, Debug)]
@@ -62,3 +63,6 @@ pub struct Conflict {
     pub from: Node,
     pub to: Node,
 }
+
+// The conflict edges of a sheet, of which it has at most so many.
+pub(crate) type ConflictList = BoundedVec<Conflict, 4096>;

@@ -1,7 +1,6 @@
 // Memory for a sheet and for reading the next one.
-use crate::bounded::BoundedVec;
 use crate::draft::Draft;
-use crate::parts::Conflict;
+use crate::parts::ConflictList;
 use crate::timing::Sheet;
 use crate::traversal::Traversal;
 
@@ -10,7 +9,7 @@ use crate::traversal::Traversal;
 pub struct SheetRoom {
     sheet: Sheet,
     draft: Draft,
-    conflicts: BoundedVec<Conflict, 4096>,
+    conflicts: ConflictList,
     traversal: Traversal,
 }
 

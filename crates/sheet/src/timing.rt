@@ -6,14 +6,13 @@ ghost use Rattle.sheet.specs.Drafts.{sheet_of};
 ghost use Rattle.sheet.specs.Tried.{items_of};
 ghost use Rattle.sheet.specs.Kept.{Kept};
 
-use crate::bounded::BoundedVec;
 use crate::draft::Draft;
-use crate::parts::Conflict;
+use crate::parts::ConflictList;
 
 #[derive(Drop)]
 pub struct Sheet {
     draft: Draft,
-    conflicts: BoundedVec<Conflict, 4096>,
+    conflicts: ConflictList,
     used: usize,
     ghost few_used: { used ≤ 64 },
     ghost counted: { used ≡ length (used_sets (sheet_of (items_of draft))) },

@@ -10,7 +10,7 @@ ghost use Rattle.sheet.specs.Reads.{Found};
 
 use crate::bounded::BoundedVec;
 use crate::fault::SheetFault;
-use crate::parts::{Block, Conflict, Edge, LBlock};
+use crate::parts::{Block, ConflictList, Edge, LBlock};
 use crate::traversal::graph::{Graph, link};
 use crate::traversal::reach::Reach;
 use std::alloc::{AllocError, Global};
@@ -33,13 +33,13 @@ impl Traversal {
     }
 
     // The conflict edges of the blocks, l-blocks and edges go into `out`. Where they pass 4,096, the set with which they do is answered.
-    pub(crate) fn find<'a>(
+    pub(crate) fn find(
         &mut self,
         sets: usize,
-        blocks: &'a [Block],
-        lblocks: &'a [LBlock],
-        edges: &'a [Edge],
-        out: &mut BoundedVec<Conflict, 4096>,
+        blocks: &[Block],
+        lblocks: &[LBlock],
+        edges: &[Edge],
+        out: &mut ConflictList,
     ) -> Result<(), SheetFault>
         requires formed { WellFormed (graph_of sets (length blocks.now) lblocks.now edges.now) }
         requires table { Table (graph_of sets (length blocks.now) lblocks.now edges.now) (first_of blocks.now) (size_of blocks.now) }

@@ -3,10 +3,9 @@ ghost use Rattle.sheet.specs.Drafts.{sheet_of};
 ghost use Rattle.sheet.specs.Reads.{Readable, Found};
 ghost use Rattle.sheet.specs.Tried.{items_of};
 
-use crate::bounded::BoundedVec;
 use crate::draft::Draft;
 use crate::fault::SheetFault;
-use crate::parts::Conflict;
+use crate::parts::ConflictList;
 use crate::traversal::Traversal;
 
 impl Draft {
@@ -14,7 +13,7 @@ impl Draft {
     pub(crate) fn find_conflicts(
         &self,
         traversal: &mut Traversal,
-        out: &mut BoundedVec<Conflict, 4096>,
+        out: &mut ConflictList,
     ) -> Result<(), SheetFault>
         requires { Readable (items_of self.now) }
         ensures { Found (sheet_of (items_of self.now)) result out.new.list.items }

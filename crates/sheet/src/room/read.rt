@@ -3,9 +3,9 @@ ghost use Rattle.std.specs.Prelude.{◌≡◌, IfOk};
 ghost use Rattle.sheet.specs.Reads.{Reading, ReaderLaws};
 ghost use Rattle.sheet.specs.View.{view, blank as blank_sheet};
 
-use crate::bounded::BoundedVec;
 use crate::draft::Draft;
 use crate::fault::SheetFault;
+use crate::parts::ConflictList;
 use crate::room::SheetRoom;
 use crate::timing::Sheet;
 use crate::traversal::Traversal;
@@ -19,7 +19,7 @@ impl SheetRoom {
         Ok(SheetRoom {
             sheet: Sheet::blank(heap)?,
             draft: Draft::reserve(heap)?,
-            conflicts: BoundedVec::reserve(heap)?,
+            conflicts: ConflictList::reserve(heap)?,
             traversal: Traversal::reserve(heap)?,
         })
     }

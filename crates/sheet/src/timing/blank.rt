@@ -3,9 +3,8 @@ ghost use Rattle.std.specs.Prelude.{◌≡◌, IfOk};
 ghost use Rattle.sheet.specs.Tried.{items_of};
 ghost use Rattle.sheet.specs.View.{view, blank as blank_sheet, blank_items, blank_conflicts};
 
-use crate::bounded::BoundedVec;
 use crate::draft::Draft;
-use crate::parts::{Block, Conflict, LBlock, Node};
+use crate::parts::{Block, Conflict, ConflictList, LBlock, Node};
 use crate::timing::Sheet;
 use std::alloc::{AllocError, Global};
 
@@ -30,10 +29,10 @@ fn blank_draft(heap: Global) -> Result<Draft, AllocError>
 }
 
 // Its conflict edges, in memory for any sheet's.
-fn lone_conflicts(heap: Global) -> Result<BoundedVec<Conflict, 4096>, AllocError>
+fn lone_conflicts(heap: Global) -> Result<ConflictList, AllocError>
     ensures { IfOk result (λ v. v.list.items ≡ blank_conflicts) }
 {
-    let mut conflicts = BoundedVec::reserve(heap)?;
+    let mut conflicts = ConflictList::reserve(heap)?;
     conflicts.push(Conflict {
         set: 0,
         from: Node::Start,

@@ -8,9 +8,8 @@ ghost use Rattle.sheet.specs.Kept.{Kept, used_among};
 ghost use Rattle.sheet.specs.Tried.{items_of};
 ghost use Rattle.sheet.specs.View.{items as items_in};
 
-use crate::bounded::BoundedVec;
 use crate::draft::Draft;
-use crate::parts::{Conflict, LBlock};
+use crate::parts::{ConflictList, LBlock};
 use crate::timing::Sheet;
 use crate::traversal::list::is_used;
 
@@ -23,7 +22,7 @@ pub(crate) fn count_used(sets: usize, lblocks: &[LBlock]) -> usize
 
 impl Sheet {
     // The sheet becomes the one that was read. Its old memory is handed back for the next.
-    pub(crate) fn replace(&mut self, draft: &mut Draft, conflicts: &mut BoundedVec<Conflict, 4096>)
+    pub(crate) fn replace(&mut self, draft: &mut Draft, conflicts: &mut ConflictList)
         requires fits { Kept (items_of draft.old) }
         requires listed { conflicts.old.list.items ≡ conflict_list (sheet_of (items_of draft.old)) }
         ensures { items_in self.new ≡ items_of draft.old }

@@ -3,26 +3,32 @@ ghost use Rattle.std.specs.Prelude.{◌≡◌, ◌<◌, [], ◌∷◌, length, n
 ghost use Rattle.words.specs.Lists.{any};
 ghost use Rattle.sheet.specs.ConflictList.{conflicts_from, conflicts_of};
 ghost use Rattle.sheet.specs.Reads.{Found};
-ghost use Rattle.sheet.specs.Traversal.{sheet_of, Source, Reached, Added, seen_edge};
+ghost use Rattle.sheet.specs.Traversal.{sheet_of, Source, Reached, Flagged, Added, saw, seen_edge};
 
-use crate::bounded::BoundedVec;
 use crate::fault::SheetFault;
-use crate::parts::{Conflict, LBlock, Node};
+use crate::parts::{Conflict, ConflictList, LBlock, Node};
 use crate::traversal::graph::Graph;
 use crate::traversal::reach::Reach;
 
 impl Reach {
-    // Lists the conflict edge to a node, which has number k, if the traversal saw it.
-    fn list_to(
-        &self,
-        k: usize,
-        to: Node,
-        out: &mut BoundedVec<Conflict, 4096>,
-    ) -> Result<(), SheetFault>
-        requires { k < length self.now.seen.list.items }
-        ensures { Added self.now.set out.old.list.items (seen_edge self.now k to) result out.new.list.items }
+    // Whether the traversal saw a node.
+    fn saw(&self, v: Node) -> bool
+        requires { Flagged self.now v }
+        ensures { result ≡ saw self.now v }
     {
-        if self.seen.as_slice()[k] {
+        match v {
+            Node::Start => false,
+            Node::At(k) => self.seen.as_slice()[k],
+            Node::End => self.ended,
+        }
+    }
+
+    // Lists the conflict edge to a node, if the traversal saw it.
+    fn list_to(&self, to: Node, out: &mut ConflictList) -> Result<(), SheetFault>
+        requires { Flagged self.now to }
+        ensures { Added self.now.set out.old.list.items (seen_edge self.now to) result out.new.list.items }
+    {
+        if self.saw(to) {
             put(
                 out,
                 Conflict {
@@ -36,16 +42,16 @@ impl Reach {
     }
 
     // Lists the conflict edges from `from`.
-    fn list(&self, g: &Graph, out: &mut BoundedVec<Conflict, 4096>) -> Result<(), SheetFault>
+    fn list(&self, g: &Graph, out: &mut ConflictList) -> Result<(), SheetFault>
         requires reached { Reached (sheet_of g.now) self.now.set self.now.from self.now }
         ensures { Added self.now.set out.old.list.items (conflicts_from (sheet_of g.now) self.now.set self.now.from) result out.new.list.items }
     {
         for (v, b) in g.lblocks.iter().enumerate() {
             if b.set == self.set {
-                self.list_to(v, Node::At(v), out)?;
+                self.list_to(Node::At(v), out)?;
             }
         }
-        self.list_to(g.lblocks.len(), Node::End, out)
+        self.list_to(Node::End, out)
     }
 
     // Lists the conflict edges of a set from a node.
@@ -54,7 +60,7 @@ impl Reach {
         g: &Graph,
         set: usize,
         from: Node,
-        out: &mut BoundedVec<Conflict, 4096>,
+        out: &mut ConflictList,
     ) -> Result<(), SheetFault>
         requires source { Source (sheet_of g.now) from }
         ensures { Added set out.old.list.items (conflicts_from (sheet_of g.now) set from) result out.new.list.items }
@@ -64,12 +70,7 @@ impl Reach {
     }
 
     // Lists the conflict edges of a set, from START and from its l-blocks.
-    fn list_set(
-        &mut self,
-        g: &Graph,
-        set: usize,
-        out: &mut BoundedVec<Conflict, 4096>,
-    ) -> Result<(), SheetFault>
+    fn list_set(&mut self, g: &Graph, set: usize, out: &mut ConflictList) -> Result<(), SheetFault>
         ensures { Added set out.old.list.items (conflicts_of (sheet_of g.now) set) result out.new.list.items }
     {
         self.list_from(g, set, Node::Start, out)?;
@@ -82,11 +83,7 @@ impl Reach {
     }
 
     // Lists the conflict edges of all used sets.
-    pub(crate) fn list_all(
-        &mut self,
-        g: &Graph,
-        out: &mut BoundedVec<Conflict, 4096>,
-    ) -> Result<(), SheetFault>
+    pub(crate) fn list_all(&mut self, g: &Graph, out: &mut ConflictList) -> Result<(), SheetFault>
         ensures { Found (sheet_of g.now) result out.new.list.items }
     {
         out.clear();
@@ -107,7 +104,7 @@ pub(crate) fn is_used(lblocks: &[LBlock], set: usize) -> bool
 }
 
 // One conflict edge more, unless there are as many as may be.
-fn put(out: &mut BoundedVec<Conflict, 4096>, c: Conflict) -> Result<(), SheetFault>
+fn put(out: &mut ConflictList, c: Conflict) -> Result<(), SheetFault>
     ensures { Added c.set out.old.list.items (c ∷ []) result out.new.list.items }
 {
     if out.is_full() {

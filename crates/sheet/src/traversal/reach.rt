@@ -3,21 +3,22 @@ ghost use Rattle.std.specs.List.{ContainsAt as Has};
 ghost use Rattle.sheet.specs.Walk.{edge};
 ghost use Rattle.sheet.specs.Conflict.{at, Arrow, Leads};
 ghost use Rattle.sheet.specs.Graph.{first_of};
-ghost use Rattle.sheet.specs.Traversal.{sheet_of, node, Going, On, saw, Source, Reached};
+ghost use Rattle.sheet.specs.Traversal.{sheet_of, Going, On, saw, Source, Reached};
 
 use crate::bounded::BoundedVec;
 use crate::parts::Node;
 use crate::traversal::graph::Graph;
 use std::alloc::{AllocError, Global};
 
-// A traversal of the fetch graph from one node, that does not go on after an l-block of the set. L-blocks have their numbers, and END the one
-// after. It flags the nodes that it saw, and those that it goes on from it queues.
+// A traversal of the fetch graph from one node, that does not go on after an l-block of the set. It flags the l-blocks that it saw, and END;
+// the l-blocks that it goes on from it queues.
 #[derive(Drop)]
 pub struct Reach {
     pub set: usize,
     pub from: Node,
-    pub seen: BoundedVec<bool, 513>,
-    pub queue: BoundedVec<usize, 513>,
+    pub seen: BoundedVec<bool, 512>,
+    pub ended: bool,
+    pub queue: BoundedVec<usize, 512>,
 }
 
 impl Reach {
@@ -26,29 +27,26 @@ impl Reach {
             set: 0,
             from: Node::Start,
             seen: BoundedVec::reserve(heap)?,
+            ended: false,
             queue: BoundedVec::reserve(heap)?,
         })
     }
 
-    // Sees a node.
+    // Sees an l-block.
     fn visit(&mut self, g: &Graph, k: usize)
         requires going { Going (sheet_of g.now) self.old }
-        requires known { k ≤ length g.now.lblocks.now }
-        requires leads { Leads (sheet_of g.now) self.old.set self.old.from (node (sheet_of g.now) k) }
+        requires known { k < length g.now.lblocks.now }
+        requires leads { Leads (sheet_of g.now) self.old.set self.old.from (at k) }
         ensures on { On (sheet_of g.now) self.old self.new }
-        ensures saw { saw self.new k ≡ true }
+        ensures saw { saw self.new (at k) ≡ true }
     {
         if self.seen.as_slice()[k] {
             return;
         }
         self.seen.set(k, true);
-        if k == g.lblocks.len() {
-            return;
+        if g.lblocks[k].set != self.set {
+            self.queue.push(k);
         }
-        if g.lblocks[k].set == self.set {
-            return;
-        }
-        self.queue.push(k);
     }
 
     // Sees the first l-block of each block that an edge leads to from block b.
@@ -57,7 +55,7 @@ impl Reach {
         requires known { b < length g.now.blocks.now }
         requires leads { (t : ℕ) → Has g.now.edges.now (edge b t) → Leads (sheet_of g.now) self.old.set self.old.from (at (first_of g.now.blocks.now t)) }
         ensures on { On (sheet_of g.now) self.old self.new }
-        ensures saw { (t : ℕ) → Has g.now.edges.now (edge b t) → saw self.new (first_of g.now.blocks.now t) ≡ true }
+        ensures saw { (t : ℕ) → Has g.now.edges.now (edge b t) → saw self.new (at (first_of g.now.blocks.now t)) ≡ true }
     {
         let mut next = g.latest[b];
         while let Some(e) = next {
@@ -72,7 +70,7 @@ impl Reach {
         requires known { x < length g.now.lblocks.now }
         requires leads { (y : Node) → Arrow (sheet_of g.now) (at x) y → Leads (sheet_of g.now) self.old.set self.old.from y }
         ensures on { On (sheet_of g.now) self.old self.new }
-        ensures saw { (k : ℕ) → k ≤ length g.now.lblocks.now → Arrow (sheet_of g.now) (at x) (node (sheet_of g.now) k) → saw self.new k ≡ true }
+        ensures saw { (y : Node) → Arrow (sheet_of g.now) (at x) y → saw self.new y ≡ true }
     {
         let b = g.lblocks[x].block;
         if x + 1 < g.blocks[b].first + g.blocks[b].lblocks {
@@ -80,10 +78,9 @@ impl Reach {
             return;
         }
         self.follow(g, b);
-        if b + 1 < g.blocks.len() {
-            return;
+        if b + 1 == g.blocks.len() {
+            self.ended = true;
         }
-        self.visit(g, g.lblocks.len());
     }
 
     // Makes ready for a traversal.
@@ -95,7 +92,8 @@ impl Reach {
         self.set = set;
         self.from = from;
         self.queue.clear();
-        self.seen.refill(g.lblocks.len() + 1, false);
+        self.seen.refill(g.lblocks.len(), false);
+        self.ended = false;
     }
 
     // Sees each node that an arrow leads to from `from`.
@@ -104,7 +102,7 @@ impl Reach {
         ensures going { Going (sheet_of g.now) self.new }
         ensures set { self.new.set ≡ set }
         ensures from { self.new.from ≡ from }
-        ensures saw { (k : ℕ) → k ≤ length g.now.lblocks.now → Arrow (sheet_of g.now) from (node (sheet_of g.now) k) → saw self.new k ≡ true }
+        ensures saw { (y : Node) → Arrow (sheet_of g.now) from y → saw self.new y ≡ true }
     {
         self.reset(g, set, from);
         match from {
@@ -120,6 +118,7 @@ impl Reach {
         ensures { Reached (sheet_of g.now) set from self.new }
     {
         self.begin(g, set, from);
+        // Kept: the queue grows while it is read, so no iterator can go over it.
         let mut head = 0;
         while let Some(&x) = self.queue.as_slice().get(head) {
             self.spread(g, x);

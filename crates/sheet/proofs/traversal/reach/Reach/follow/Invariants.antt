@@ -1,5 +1,6 @@
 use Rattle.std.proofs.Common.{◌≡◌, ℕ, ◌+◌, ◌<◌, ◌≤◌, true, length, get_or}
 use Rattle.std.specs.Prelude.{MatchOption}
+use Rattle.sheet.specs.Conflict.{at}
 use Rattle.sheet.specs.Graph.{no_edge, first_of}
 use Rattle.sheet.specs.Traversal.{sheet_of, On, saw}
 use Rattle.sheet.specs.declared.traversal.graph.Graph.{Graph}
@@ -9,7 +10,7 @@ use Rattle.sheet.proofs.traversal.reach.Reach.follow.Given as goal
 
 -- the edges from block b with number i or more were followed
 abbrev pub Followed : Graph → Reach → (b i : ℕ) → Type 0
-Followed g r b i = (j : ℕ) → i ≤ j → j < length g.edges.now → (get_or g.edges.now j no_edge).from ≡ b → saw r (first_of g.blocks.now (get_or g.edges.now j no_edge).to) ≡ true
+Followed g r b i = (j : ℕ) → i ≤ j → j < length g.edges.now → (get_or g.edges.now j no_edge).from ≡ b → saw r (at (first_of g.blocks.now (get_or g.edges.now j no_edge).to)) ≡ true
 
 -- the block's edges after the next one were followed
 abbrev pub invariant-loop-next : goal.invariant-loop-next

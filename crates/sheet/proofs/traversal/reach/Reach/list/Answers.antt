@@ -4,7 +4,6 @@ use Rattle.std.proofs.lemmas.Result.{err_from_is_err_and}
 use Rattle.words.specs.Lists.{below, joined}
 use Rattle.sheet.specs.Conflict.{END}
 use Rattle.sheet.specs.Traversal.{sheet_of, Added, edge_at, edge_to}
-use Rattle.sheet.proofs.Nodes.{node_end}
 use Rattle.sheet.proofs.Added.{added_after, rest_more, rest_over, rest_all, from_parts, seen_to, seen_at, other_at}
 use Rattle.sheet.proofs.traversal.reach.Reach.list.Goals as goal
 use Rattle.sheet.proofs.traversal.reach.Reach.list.Goals.{then-b-self+in_ok-list_to, else-b-self}
@@ -20,7 +19,7 @@ returns-in_err-list_to c =
     let ys = c.loop-v.out.list.items in
     let first = joined (edge_at S s u) (below (length S.lblocks)) in
     let p = err_from_is_err_and c.from_residual.result c.from_residual.ensures.1 in
-    let h = subst (λ a. 4096 < length ys + length a) (seen_at S r c.requires.reached v c.loop-v-test.true c.if-b-self.true) c.in_err-list_to.ensures.0 in
+    let h = subst (λ a. 4096 < length ys + length a) (seen_at S r c.requires.reached v c.if-b-self.true) c.in_err-list_to.ensures.0 in
     let k : 4096 < length xs + length first = rest_over (edge_at S s u) (length S.lblocks) (xs ++ first) ys xs first v c.loop-v-test.true c.loop-v.invariant refl h in
     rw p.1 (
       subst (λ a. 4096 < length xs + length a) (from_parts S s u) (omega (arith, k, length-append first (edge_to S s u END))),
@@ -35,7 +34,7 @@ loop-v-preserved c =
     let xs = c.loop-v.out.list.items in
     rest_more (edge_at S r.set r.from) (length S.lblocks) _ xs c.if-b-self.out.list.items v c.loop-v-test.true c.loop-v.invariant
     (elim c.if-b-self.branch [
-      | then-b-self+in_ok-list_to w ↦ rw w.out-is (w.in_ok-list_to.ensures ∙ ap (λ a. xs ++ a) (seen_at S r c.requires.reached v c.loop-v-test.true w.if-b-self.true))
+      | then-b-self+in_ok-list_to w ↦ rw w.out-is (w.in_ok-list_to.ensures ∙ ap (λ a. xs ++ a) (seen_at S r c.requires.reached v w.if-b-self.true))
       | else-b-self w ↦ rw (w.out-is, other_at S r.set v r.from w.if-b-self.false) (sym (append-nil xs))
     ])
 
@@ -50,4 +49,4 @@ returns c =
     subst (λ a. Added r.set xs a c.list_to-2.result c.list_to-2.new.out.list.items) (from_parts S r.set r.from)
     (added_after r.set xs first (edge_to S r.set r.from END) ys c.list_to-2.result c.list_to-2.new.out.list.items
     (rest_all (edge_at S r.set r.from) n (xs ++ first) ys c.loop-v.v c.loop-v-test.false c.loop-v.invariant)
-    (subst (λ a. Added r.set ys a c.list_to-2.result c.list_to-2.new.out.list.items) (seen_to S r c.requires.reached n END (omega arith) (node_end S)) c.list_to-2.ensures))
+    (subst (λ a. Added r.set ys a c.list_to-2.result c.list_to-2.new.out.list.items) (seen_to S r c.requires.reached END) c.list_to-2.ensures))

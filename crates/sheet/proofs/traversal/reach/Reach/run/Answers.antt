@@ -2,10 +2,9 @@ use Rattle.std.proofs.Common.{◌≡◌, ℕ, ◌<◌, ◌≤◌, true, false, l
 use Rattle.std.proofs.lemmas.Bool.{ltb-true, ltb-false}
 use Rattle.std.proofs.lemmas.List.{get_or_read}
 use Rattle.std.proofs.ByRecursion.{All-get_or}
-use Rattle.sheet.specs.Conflict.{at, Leads, more, in_set}
+use Rattle.sheet.specs.Conflict.{at, more, in_set}
 use Rattle.sheet.specs.Traversal.{sheet_of, saw, Front}
 use Rattle.sheet.proofs.Front.{front_done}
-use Rattle.sheet.proofs.Nodes.{node_at}
 use Rattle.sheet.proofs.traversal.reach.Reach.run.Goals as goal
 
 pub spread-requires-clause-leads : goal.spread-requires-clause-leads
@@ -18,9 +17,9 @@ spread-requires-clause-leads c =
     let xs = c.as_slice.result.now in
     let h = c.in-Some.ensures.lookup in
     let l : i < length xs = ltb-true i (length xs) (sym h.0) in
-    let P : ℕ → Type 0 = λ q. (q < length S.lblocks) × (in_set S r.set (at q) ≡ false) × (saw r q ≡ true) in
+    let P : ℕ → Type 0 = λ q. (q < length S.lblocks) × (in_set S r.set (at q) ≡ false) × (saw r (at q) ≡ true) in
     let p = subst P (sym (get_or_read xs i x l h.1 0)) (rw c.as_slice.ensures.items (All-get_or P r.queue.list.items i 0 (rw c.as_slice.ensures.items at l) f.inner)) in
-    λ y a. more (subst (Leads S r.set r.from) (node_at S x p.0) (f.sound x (omega (arith, f.sized, p.0)) p.2)) p.1 a
+    λ y a. more (f.sound (at x) p.2) p.1 a
 
 pub returns : goal.returns
 returns c =
@@ -35,8 +34,8 @@ returns c =
       set_is = set_is;
       from_is = from_is;
       sized = on.going.sized;
-      found = front_done S c.args.set c.args.from r.seen.list.items r.queue.list.items
-          (subst₂ (λ s u. Front S s u r.seen.list.items r.queue.list.items) set_is from_is on.going)
-          (λ k l a. on.grown.seen_kept k (c.begin.ensures.saw k l a))
+      found = front_done S c.args.set c.args.from r.seen.list.items r.ended r.queue.list.items
+          (subst₂ (λ s u. Front S s u r.seen.list.items r.ended r.queue.list.items) set_is from_is on.going)
+          (λ y a. on.kept y (c.begin.ensures.saw y a))
           (λ i l. c.loop-x.invariant.2 i (omega arith));
     }

@@ -1,20 +1,15 @@
-use Rattle.std.proofs.Common.{refl, arith}
-use Rattle.std.proofs.lemmas.Bool.{both_ways, eq-eqb, ne_eqb}
+use Rattle.std.proofs.Common.{refl}
+use Rattle.std.proofs.lemmas.Bool.{eq-eqb, ne_eqb}
 use Rattle.sheet.specs.Traversal.{sheet_of}
 use Rattle.sheet.proofs.Front.{on_ends, on_goes_on}
 use Rattle.sheet.proofs.traversal.reach.Reach.visit.Goals as goal
 
-pub returns-then-k-g-clause-on : goal.returns-then-k-g-clause-on
-returns-then-k-g-clause-on c =
-    on_ends (sheet_of c.args.g.now) c.args.self.now _ c.args.k c.requires.going c.requires.known c.requires.leads (cc) refl refl c.set.ensures
-    (λ l e. omega arith) refl
-
 pub returns-then-g-k-clause-on : goal.returns-then-g-k-clause-on
 returns-then-g-k-clause-on c =
-    on_ends (sheet_of c.args.g.now) c.args.self.now _ c.args.k c.requires.going c.requires.known c.requires.leads (cc) refl refl c.set.ensures
-    (λ l e. both_ways _ e (eq-eqb _ c.args.self.now.set c.if-g-k.true)) refl
+    on_goes_on (sheet_of c.args.g.now) c.args.self.now _ c.args.k c.requires.going c.requires.known c.requires.leads (cc) refl refl c.set.ensures refl
+    (ne_eqb _ c.args.self.now.set c.if-g-k.true) c.push.ensures
 
-pub returns-clause-on : goal.returns-clause-on
-returns-clause-on c =
-    on_goes_on (sheet_of c.args.g.now) c.args.self.now _ c.args.k c.requires.going c.requires.known c.requires.leads (cc) refl refl c.set.ensures
-    (omega (arith, c.requires.known, c.if-k-g.false)) (ne_eqb _ c.args.self.now.set c.if-g-k.false) c.push.ensures
+pub returns-else-g-k-clause-on : goal.returns-else-g-k-clause-on
+returns-else-g-k-clause-on c =
+    on_ends (sheet_of c.args.g.now) c.args.self.now _ c.args.k c.requires.going c.requires.known c.requires.leads (cc) refl refl c.set.ensures refl
+    (eq-eqb _ c.args.self.now.set c.if-g-k.false) refl
