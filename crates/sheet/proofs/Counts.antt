@@ -3,9 +3,15 @@ use Rattle.std.proofs.Common.{◌≡◌, ℕ, ◌+◌, ◌*◌, List, ◌++◌, 
 use Rattle.std.proofs.lemmas.List.{length-append, length-map}
 use Rattle.words.specs.Lists.{below}
 use Rattle.words.proofs.Lists.{length-below}
-use Rattle.sheet.specs.Sheet.{Sheet}
+use Rattle.sheet.specs.declared.parts.Block.{Block}
+use Rattle.sheet.specs.declared.parts.BackEdge.{BackEdge}
+use Rattle.sheet.specs.declared.parts.Loop.{Loop as Header}
+use Rattle.sheet.specs.Sheet.{Sheet, LBlock, Edge, Fact}
 use Rattle.sheet.specs.Conflict.{Conflict, used_sets}
+use Rattle.sheet.specs.Graph.{graph_of}
+use Rattle.sheet.specs.Drafts.{sheet_of}
 use Rattle.sheet.specs.Rows.{N, T, M, P, columns, Row, in_row, out_row, loop_row, fact_row, arrival_row, departure_row, set_row, miss_row, rows}
+use Rattle.sheet.proofs.Turns.{length-loops}
 
 mapped : {A : Type 0} (f : ℕ → A) (n : ℕ) → length (map f (below n)) ≡ n
 mapped f n = length-map (below n) f ∙ length-below n
@@ -33,3 +39,13 @@ length-rows S = go (map in_row (below S.blocks)) (map out_row (below S.blocks)) 
         → length f ≡ length S.lblocks → length g ≡ length (used_sets S) → length h ≡ length S.lblocks
         → length (a ++ b ++ c ++ d ++ e ++ f ++ g ++ h) ≡ 2 * S.blocks + length S.loops + length S.facts + 3 * length S.lblocks + length (used_sets S)
     go a b c d e f g h p q r s t u v w = simp length-append (omega arith)
+
+-- of the items that the code holds
+pub row_count : (n : ℕ) (bs : List Block) (vs : List LBlock) (es : List Edge) (hs : List Header) (ks : List BackEdge) (fs : List Fact)
+    → let S : Sheet = sheet_of (record { sets = n; blocks = bs; lblocks = vs; edges = es; loops = hs; backs = ks; facts = fs }) in
+    length (rows S) ≡ 2 * length bs + length hs + length fs + 3 * length vs + length (used_sets S)
+row_count n bs vs es hs ks fs =
+    omega (arith, length-rows (sheet_of (record { sets = n; blocks = bs; lblocks = vs; edges = es; loops = hs; backs = ks; facts = fs })), length-loops ks 0 hs)
+
+pub column_count : (b : ℕ) (vs : List LBlock) (es : List Edge) (cs : List Conflict) → length (columns (graph_of 0 b vs es) cs) ≡ b + length es + length vs + length cs
+column_count b vs es cs = length-columns (graph_of 0 b vs es) cs

@@ -65,6 +65,7 @@ impl Sheet {
 
     // How many rows the linear program has: an in and an out row for each block, a row for each loop and fact, an arrival, a departure and
     // a miss row for each l-block, and one for each used set.
+    #[tactic(auto, using(crate::proofs::Counts::row_count))]
     pub fn rows(&self) -> usize
         ensures { result ≡ length (row_list (view self.now)) }
     {
@@ -77,10 +78,11 @@ impl Sheet {
     }
 
     // How many columns it has: one for each block, edge, l-block and conflict edge.
+    #[tactic(auto, using(crate::proofs::Counts::column_count))]
     pub fn columns(&self) -> usize
         ensures { result ≡ length (column_list (view self.now) (conflict_list (view self.now))) }
     {
         let draft = &self.draft;
-        draft.blocks.len() + draft.edges.len() + draft.lblocks.len() + self.conflicts.len()
+        draft.blocks.len() + draft.edges.len() + draft.lblocks.len() + self.conflicts().len()
     }
 }
