@@ -3,11 +3,10 @@ use Rattle.std.proofs.Common.{◌≡◌, ℕ, ◌+◌, ◌-◌, ◌*◌, Bool, t
 use lib.Signed.{le_z}
 use Rattle.std.specs.List.{prefix_len}
 use Rattle.std.proofs.lemmas.Bool.{lt-ltb, le-ltb, cond-true, cond-false}
-use Rattle.words.specs.Words.{refusal, negative_multiplier, column_too_low, claim_too_low, Answer, accepted, refused}
+use Rattle.words.specs.Words.{refusal, column_too_low, claim_too_low, Answer, accepted, refused}
 use Rattle.sheet.specs.Sheet.{Sheet}
 use Rattle.sheet.specs.ConflictList.{conflicts}
 use Rattle.sheet.specs.Rows.{rows, columns, right_side}
-use Rattle.claim.specs.Kinds.{Refusal}
 use Rattle.claim.specs.Certificate.{Certificate, combined}
 use Rattle.claim.specs.Judge.{Verdict, passed, negative, low_column, low_claim, sign_tests, high_enough, claims_enough, judge}
 use Rattle.claim.specs.Judging.{JudgeLaws}
@@ -47,24 +46,12 @@ module _ (t : Tableau) (S : Sheet) (C : Certificate) (e : sheet_in t ≡ S) (d :
 abbrev answer : Sheet → Answer Certificate → Answer ℕ
 answer S a = elim a [ refused r ↦ refused r | accepted C ↦ answered C.W (judge S (conflicts S) C) ]
 
-pub words_refused : (S : Sheet) (ws : List ℕ) (n : ℕ) (r : Refusal) → n ≡ length (rows S) → read_certificate n ws ≡ refused r → judged S ws ≡ refused r
-words_refused S ws n r e h = ap (answer S) (ap (λ m. read_certificate m ws) (sym e) ∙ h)
-
 module _ (S : Sheet) (ws : List ℕ) (n : ℕ) (C : Certificate) (e : n ≡ length (rows S)) (h : read_certificate n ws ≡ accepted C) where
   was_read : judged S ws ≡ answered C.W (judge S (conflicts S) C)
   was_read = ap (answer S) (ap (λ m. read_certificate m ws) (sym e) ∙ h)
 
   abbrev signs : List Bool
   signs = sign_tests C.multipliers (rows S)
-
-  pub sign_refused : (k : ℕ) → FirstLow as_tested signs (Some k) → judged S ws ≡ refused (refusal negative_multiplier k)
-  sign_refused k f =
-      was_read
-      ∙ ap (answered C.W)
-      (cond-true (ltb (prefix_len as_tested signs) (length signs)) (negative (prefix_len as_tested signs))
-      (cond (ltb (prefix_len (high_enough S C) (columns S (conflicts S))) (length (columns S (conflicts S)))) (low_column (prefix_len (high_enough S C) (columns S (conflicts S)))) (cond (claims_enough S C) passed low_claim))
-      (lt-ltb (prefix_len as_tested signs) (length signs) (omega (arith, f.0, f.1)))
-      ∙ ap negative f.0)
 
   module _ (f : FirstLow as_tested signs None) where
     abbrev column_verdict : Verdict

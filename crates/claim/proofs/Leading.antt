@@ -1,5 +1,5 @@
--- For code: a loop that looks for the first element that fails a test. Assumes nothing.
-use Rattle.std.proofs.Common.{◌≡◌, ℕ, zero, suc, ◌+◌, ◌<◌, ◌≤◌, Bool, true, false, cond, List, [], ◌∷◌, ◌++◌, map, length, get_or, drop, Some, None, Option, sym, refl, ap, ◌∙◌, subst, le_of_suc-le-suc, not-suc-le-zero, zero-add, arith}
+-- For code: a search for the first element that fails a test. Assumes nothing.
+use Rattle.std.proofs.Common.{◌≡◌, ℕ, zero, suc, ◌+◌, ◌<◌, ◌≤◌, Bool, true, false, cond, List, [], ◌∷◌, ◌++◌, map, length, get_or, Some, None, Option, sym, refl, ap, ◌∙◌, subst, le_of_suc-le-suc, not-suc-le-zero, zero-add, arith}
 use denote.Param.Members.{Mut}
 use denote.Ref.{Bor}
 use Rattle.std.specs.declared.ops.Range.{Range}
@@ -11,27 +11,10 @@ use Rattle.std.proofs.iter.Yields.{nat_range_steps}
 use Rattle.std.proofs.lemmas.Iterator.{first_from_Range}
 use Rattle.std.specs.Option.{MatchOption, option_map}
 use Rattle.std.proofs.lemmas.List.{get_or-map, length-map, length-append}
-use Rattle.std.proofs.lemmas.List.Sums.{prefix_len_is, prefix_len-drop_yes, prefix_len-drop_no, prefix_len-drop_all}
+use Rattle.std.proofs.lemmas.List.Sums.{prefix_len_is}
 use Rattle.words.specs.Lists.{up_from, below}
 use Rattle.words.proofs.Lists.{length-below}
 use Rattle.claim.specs.Shares.{FirstLow}
-
--- Every element before place i passes: what is left gives the answer.
-pub record PassedTo {A : Type 0} (p : A → Bool) (xs : List A) (i : ℕ) : Type 0 where
-  pub left : i + prefix_len p (drop i xs) ≡ prefix_len p xs
-
-module _ {A : Type 0} (p : A → Bool) (xs : List A) where
-  pub passed_none : PassedTo p xs 0
-  passed_none = record { left = zero-add (prefix_len p xs) }
-
-  pub passed_more : (i : ℕ) (x : A) → PassedTo p xs i → i < length xs → get_or xs i x ≡ x → p x ≡ true → PassedTo p xs (i + 1)
-  passed_more i x h l e t = record { left = let q = h.left in omega (arith, prefix_len-drop_yes p xs i x l (ap p e ∙ t)) }
-
-  pub failed_at : (i : ℕ) (x : A) → PassedTo p xs i → i < length xs → get_or xs i x ≡ x → p x ≡ false → FirstLow p xs (Some i)
-  failed_at i x h l e t = (let q = h.left in omega (arith, prefix_len-drop_no p xs i x l (ap p e ∙ t)), l)
-
-  pub passed_all : (i : ℕ) → PassedTo p xs i → length xs ≤ i → i ≤ length xs → FirstLow p xs None
-  passed_all i h l u = let q = h.left in omega (arith, prefix_len-drop_all p xs i l)
 
 -- the numbers below n, and what is made of them
 get_or-up : (i n k : ℕ) → k < n → get_or (up_from i n) k 0 ≡ i + k

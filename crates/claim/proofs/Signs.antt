@@ -1,16 +1,15 @@
 -- For code: which rows say `at most`, and the test of signs. Assumes nothing.
-use Rattle.std.proofs.Common.{◌≡◌, ℕ, zero, suc, ◌+◌, ◌-◌, ◌*◌, ◌<◌, ◌≤◌, Bool, true, false, not, ◌||◌, List, [], ◌∷◌, ◌++◌, map, length, get_or, ℤ, pos, sym, refl, ap, ◌∙◌, le_of_suc-le-suc, not-suc-le-zero, arith}
+use Rattle.std.proofs.Common.{◌≡◌, ℕ, zero, suc, ◌+◌, ◌-◌, ◌*◌, ◌<◌, ◌≤◌, Bool, true, false, not, ◌||◌, List, [], ◌∷◌, ◌++◌, map, length, get_or, ℤ, pos, refl, ap, ◌∙◌, le_of_suc-le-suc, not-suc-le-zero, arith}
 use lib.Signed.{le_z}
 use Rattle.std.specs.List.{AllByRecursion}
 use Rattle.std.proofs.ByRecursion.{All-get_or, All-append}
-use Rattle.std.proofs.lemmas.List.{append_assoc, length-append, length-map, get_or-map, get_or_append_left, get_or-append_right}
+use Rattle.std.proofs.lemmas.List.{append_assoc, length-append, length-map, get_or_append_left, get_or-append_right}
 use Rattle.words.specs.Lists.{below}
 use Rattle.words.proofs.Lists.{length-below}
 use Rattle.sheet.specs.Sheet.{Sheet}
 use Rattle.sheet.specs.Conflict.{used_sets}
 use Rattle.sheet.specs.Rows.{Row, rows, at_most, in_row, out_row, loop_row, fact_row, arrival_row, departure_row, set_row, miss_row}
 use Rattle.claim.specs.Judge.{sign_tests}
-use Rattle.claim.specs.Parts.{multiplier, multipliers}
 
 all_made : {A : Type 0} (P : Row → Type 0) (g : A → Row) → ((x : A) → P (g x)) → (xs : List A) → AllByRecursion P (map g xs)
 all_made P g h [] = tt
@@ -96,10 +95,3 @@ pub length-signs : (ys : List ℤ) (rs : List Row) → length ys ≡ length rs �
 length-signs [] rs e = refl
 length-signs (y ∷ ys) [] e = absurd (omega arith)
 length-signs (y ∷ ys) (r ∷ rs) e = ap suc (length-signs ys rs (omega arith))
-
--- the test of the row whose pair is at place i
-pub sign_test : (ps : List (List ℕ)) (rs : List Row) (i : ℕ) (t : Bool) (y : ℤ) → length ps ≡ length rs → i < length ps → y ≡ multiplier (get_or ps i [])
-    → get_or (sign_tests (multipliers ps) rs) i t ≡ (not (at_most (get_or rs i (in_row 0))) || le_z (pos 0) y)
-sign_test ps rs i t y e h q =
-    get_or-signs (multipliers ps) rs i (in_row 0) t (omega (arith, length-map ps multiplier)) (omega arith)
-    ∙ ap (λ z. not (at_most (get_or rs i (in_row 0))) || le_z (pos 0) z) (get_or-map multiplier ps i [] (pos 0) h ∙ sym q)

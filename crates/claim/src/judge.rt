@@ -52,6 +52,7 @@ impl Tableau<'_> {
 }
 
 // The claim W of the certificate whose words these are, if it passes, or the first fault. Nothing is allocated.
+#[tactic(auto, using(crate::proofs::Judgement::judge_laws))]
 pub fn judge(sheet: &Sheet, words: &[u32]) -> Result<Cycles, ClaimFault>
     ensures answer { Judging (view sheet.now) words.now result }
     ensures covers { IfOk result (λ w. Covers (view sheet.now) w.0) }

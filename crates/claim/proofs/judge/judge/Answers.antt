@@ -6,12 +6,6 @@ use Rattle.claim.proofs.Judgement.{judge_laws, column_refused, claim_refused, cl
 use Rattle.claim.proofs.Sheets.{sheet_sound}
 use Rattle.claim.proofs.judge.judge.Goals as goal
 
-pub returns-in_err-certificate-clause-laws : goal.returns-in_err-certificate-clause-laws
-returns-in_err-certificate-clause-laws c = judge_laws
-
-pub returns-in-Some-clause-laws : goal.returns-in-Some-clause-laws
-returns-in-Some-clause-laws c = judge_laws
-
 pub returns-in-Some-low_column-clause-answer : goal.returns-in-Some-low_column-clause-answer
 returns-in-Some-low_column-clause-answer c =
     let S = view c.args.sheet.now in
@@ -20,9 +14,6 @@ returns-in-Some-low_column-clause-answer c =
     let k = c.in-Some-low_column.column in
     column_refused S c.args.words.now c.rows.result C c.rows.ensures c.in_ok-certificate.ensures.0 c.in_default.ensures k
     (found_column t.result S C (ap view t.ensures.sheet) (ap (λ d. d.value) t.ensures.scale) t.ensures.whole (Some k) c.in-Some-low_column.ensures)
-
-pub returns-in-Some-low_column-clause-laws : goal.returns-in-Some-low_column-clause-laws
-returns-in-Some-low_column-clause-laws c = judge_laws
 
 pub returns-then-not-within-clause-answer : goal.returns-then-not-within-clause-answer
 returns-then-not-within-clause-answer c =
@@ -34,9 +25,6 @@ returns-then-not-within-clause-answer c =
     claim_refused S c.args.words.now c.rows.result C c.rows.ensures c.in_ok-certificate.ensures.0 c.in_default.ensures
     (found_column t.result S C e d t.ensures.whole None c.in_default-low_column.ensures)
     (found_claim t.result S C e d t.ensures.whole c.right_side.result.0 _ c.right_side.ensures c.if-not-within.ensures)
-
-pub returns-then-not-within-clause-laws : goal.returns-then-not-within-clause-laws
-returns-then-not-within-clause-laws c = judge_laws
 
 pub returns : goal.returns
 returns c =
