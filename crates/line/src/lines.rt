@@ -7,7 +7,7 @@ ghost use Rattle.line.specs.Written.{Written};
 use crate::fault::LineFault;
 use crate::field::{Field, Word};
 use crate::layout::write_line;
-use words::refusal::{Layer, Refusal};
+use words::refusal::{Layer, Refusal, Refuse};
 
 // No line has more bytes.
 pub const MOST_LINE: usize = 256;
@@ -43,6 +43,18 @@ pub struct Accepted {
 pub struct Refused {
     pub item: Item,
     pub refusal: Refusal,
+}
+
+impl Refused {
+    pub fn new<F: Refuse>(item: Item, fault: &F) -> Refused
+        ensures item { result.item ≡ item }
+        ensures refusal { result.refusal ≡ F.means fault.now }
+    {
+        Refused {
+            item,
+            refusal: fault.refusal(),
+        }
+    }
 }
 
 // A line of the program.
@@ -134,7 +146,7 @@ impl From<Layer> for Word {
 mod tests {
     use super::*;
     use std::test::Fail;
-    use words::refusal::{Refuse, WordFault};
+    use words::refusal::WordFault;
 
     const DRUM: SheetNumbers = SheetNumbers {
         blocks: 3,
@@ -168,14 +180,8 @@ mod tests {
     #[test]
     fn refusal_lines(rt: HostRuntime) -> Result<(), Fail> {
         let mut out = [b'.'; 64];
-        let sheet = Refused {
-            item: Item::Sheet,
-            refusal: WordFault::EndsEarly(0).refusal(),
-        };
-        let stream = Refused {
-            item: Item::Stream,
-            refusal: LineFault::TooShort(52).refusal(),
-        };
+        let sheet = Refused::new(Item::Sheet, &WordFault::EndsEarly(0));
+        let stream = Refused::new(Item::Stream, &LineFault::TooShort(52));
         let at = sheet.write(&mut out, 0)?;
         let at = stream.write(&mut out, at)?;
         assert_eq!(rt; at, 62);

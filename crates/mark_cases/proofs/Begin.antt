@@ -1,6 +1,6 @@
 -- For code: the first input of a container. Assumes nothing.
 use Rattle.std.proofs.Common.{◌≡◌, ℕ, ◌-◌, ◌<◌, ◌≤◌, List, [], ◌∷◌, ◌++◌, length, get_or, drop, is_some, Some, unwrap_or, sym, ap, ◌∙◌, true≢false, arith, length-append, length-drop}
-use Rattle.claim_marker.specs.Input.{word_at}
+use Rattle.marker.specs.Input.{word_at}
 use Rattle.mark_cases.specs.Container.{Begins, Cut}
 
 -- no number

@@ -4,7 +4,7 @@
 mod container;
 
 use anyhow::Context;
-use claim_marker::report::Marker;
+use marker::report::Marker;
 use container::take_input;
 use std::io::{Read, Write};
 

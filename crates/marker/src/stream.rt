@@ -1,14 +1,14 @@
 // The words after the sheet: certificates, and words that are not due.
-ghost use Rattle.std.specs.Prelude.{◌*◌, ◌≤◌, length, drop, vec_capacity};
+ghost use Rattle.std.specs.Prelude.{◌*◌, ◌≤◌, length, drop};
 ghost use Rattle.sheet.specs.View.{view};
 ghost use Rattle.claim.specs.ReadCertificate.{judged};
-ghost use Rattle.claim_marker.specs.Text.{Appended, Printed};
-ghost use Rattle.claim_marker.specs.Stream.{claim_text, next as next_of, stream as stream_of, Done};
+ghost use Rattle.marker.specs.Text.{Appended, Printed};
+ghost use Rattle.marker.specs.Stream.{claim_text, next as next_of, stream as stream_of, Done};
 
-use crate::input::{first_word, take_list};
-use crate::text::{append_accepted, append_refusal};
+use crate::input::{WordList, first_word};
+use crate::text::append;
 use claim::judge::judge;
-use line::lines::Item;
+use line::lines::{Accepted, Item, Refused};
 use sheet::timing::Sheet;
 use std::alloc::AllocError;
 use words::refusal::WordFault;
@@ -19,38 +19,39 @@ fn certificate(sheet: &Sheet, words: &[u32], text: &mut Vec<u8>) -> Result<(), A
     ensures { Appended text.old.items (claim_text (judged (view sheet.now) words.now)) result text.new.items }
 {
     match judge(sheet, words) {
-        Ok(cycles) => append_accepted(text, cycles.0),
-        Err(fault) => append_refusal(text, Item::Claim, &fault),
+        Ok(cycles) => append(text, &Accepted { cycles: cycles.0 }),
+        Err(fault) => append(text, &Refused::new(Item::Claim, &fault)),
     }
 }
 
 // Does what the next word asks, at its place in the input, and answers how many words it takes; none where reading stops.
 fn next(
     sheet: &Sheet,
-    words: &mut Vec<u32>,
+    words: &mut WordList,
     bytes: &[u8],
     place: usize,
     text: &mut Vec<u8>,
 ) -> Result<Option<usize>, AllocError>
-    requires { 4096 ≤ vec_capacity words.old }
-    ensures done { Done (next_of (view sheet.now) place bytes.now) text.old.items result text.new.items }
-    ensures space { 4096 ≤ vec_capacity words.new }
+    ensures { Done (next_of (view sheet.now) place bytes.now) text.old.items result text.new.items }
 {
     let Some(word) = first_word(bytes) else {
         if !bytes.is_empty() {
-            append_refusal(text, Item::Stream, &WordFault::EndsEarly(place))?;
+            append(
+                text,
+                &Refused::new(Item::Stream, &WordFault::EndsEarly(place)),
+            )?;
         }
         return Ok(None);
     };
     match Kind::from(word) {
         Kind::Claim => {
-            take_list(bytes, words);
-            certificate(sheet, words, text)?;
+            words.take(bytes);
+            certificate(sheet, words.as_slice(), text)?;
             Ok(Some(words.len()))
         }
         Kind::Start | Kind::Step | Kind::Finish => Ok(None),
         _ => {
-            append_refusal(text, Item::Stream, &WordFault::NotDue(place))?;
+            append(text, &Refused::new(Item::Stream, &WordFault::NotDue(place)))?;
             Ok(Some(1))
         }
     }
@@ -59,15 +60,13 @@ fn next(
 // Appends the lines of the words from a place in the input on.
 pub(crate) fn stream(
     sheet: &Sheet,
-    words: &mut Vec<u32>,
+    words: &mut WordList,
     input: &[u8],
     start: usize,
     text: &mut Vec<u8>,
 ) -> Result<(), AllocError>
-    requires within { 4 * start ≤ length input.now }
-    requires space { 4096 ≤ vec_capacity words.old }
-    ensures printed { Printed text.old.items (stream_of (view sheet.now) start (drop (4 * start) input.now)) result text.new.items }
-    ensures space { 4096 ≤ vec_capacity words.new }
+    requires { 4 * start ≤ length input.now }
+    ensures { Printed text.old.items (stream_of (view sheet.now) start (drop (4 * start) input.now)) result text.new.items }
 {
     let mut place = start;
     while let Some(taken) = next(sheet, words, &input[4 * place..], place, text)? {

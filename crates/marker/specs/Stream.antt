@@ -8,7 +8,7 @@ use Rattle.sheet.specs.Sheet.{Sheet}
 use Rattle.claim.specs.ReadCertificate.{judged}
 use Rattle.line.specs.declared.lines.Item.TheVariants.{Claim as ClaimItem, Stream as StreamItem}
 use Rattle.line.specs.Lines.{accepted_text, refusal_text}
-use Rattle.claim_marker.specs.Input.{first_word, first_list}
+use Rattle.marker.specs.Input.{first_word, first_list}
 
 -- the line of a certificate that was judged
 abbrev pub claim_text : Answer ℕ → List ℕ
