@@ -7,11 +7,11 @@ use Rattle.words.specs.declared.word.Kind.{Kind}
 use Rattle.words.specs.declared.word.Kind.TheVariants.{Reserved as NONE, Head as HEAD, Block as BLOCK, LBlock as LBLOCK, Cost as COST, Edge as EDGE, Loop as LOOP, Back as BACK, Fact as FACT, Claim as CLAIM, High as HIGH, Low as LOW, Start as START, Step as STEP, Finish as FINISH, End as END}
 use Rattle.sheet.specs.Sheet.{Sheet}
 use Rattle.claim.specs.ReadCertificate.{judged}
-use Rattle.marker.specs.Input.{word_at, list_up_to, first_list}
+use Rattle.marker.specs.Input.{word_at, first_word, list_up_to, first_list}
 use Rattle.line.specs.declared.lines.Item.TheVariants.{Stream as StreamItem}
 use Rattle.line.specs.Lines.{refusal_text}
 use Rattle.marker.specs.Text.{WholeLines, Printed}
-use Rattle.marker.specs.Stream.{Next, goes_on, stops, at_kind, next, and_then, steps, stream, StepByStep, Done}
+use Rattle.marker.specs.Stream.{claim_text, Next, goes_on, stops, at_kind, at_word, next, and_then, steps, stream, StepByStep, Done}
 use Rattle.marker.proofs.Whole.{whole_more, whole_refusal, whole_claim}
 
 -- a list has no more words than there are bytes for, and a word if there is one
@@ -93,6 +93,15 @@ step_by_step S place bytes = go (next S place bytes) (next_within S place bytes)
     go (goes_on t j) w =
         let l = length-drop (4 * j) bytes in
         ap (λ z. t ++ z) (enough (length bytes) (suc (length (drop (4 * j) bytes))) S (place + j) (drop (4 * j) bytes) (omega (arith, w.0, w.1)) (omega arith))
+
+-- a certificate was judged
+pub judged_done : (S : Sheet) (place w k : ℕ) (bytes ws vs before after : List ℕ) → Some w ≡ first_word bytes → CLAIM ≡ kind w
+    → ws ≡ vs → vs ≡ first_list bytes → k ≡ length vs → after ≡ before ++ claim_text (judged S ws) → Done (next S place bytes) before (Ok (Some k)) after
+judged_done S place w k bytes ws vs before after o q e f l p =
+    let n : next S place bytes ≡ goes_on (claim_text (judged S ws)) (length vs) =
+    ap (λ o. at_word o S place bytes) (sym o) ∙ ap (λ k. at_kind k S place bytes) (sym q)
+    ∙ ap (λ ws. goes_on (claim_text (judged S ws)) (length (first_list bytes))) (sym (e ∙ f)) ∙ ap (λ us. goes_on (claim_text (judged S ws)) (length us)) (sym f) in
+    subst (λ x. Done x before (Ok (Some k)) after) (sym n) (l, p)
 
 -- At a place of the input the text is some of the lines, from the first on, and the others are those of the steps from here.
 abbrev pub Going : Sheet → List ℕ → List ℕ → List ℕ → ℕ → List ℕ → Type 0

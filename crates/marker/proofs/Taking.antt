@@ -46,7 +46,7 @@ module _ (whole ws : List ℕ) (m : ℕ) (cs : List (List ℕ)) (inv : ws ++ of_
   pub taken_all : (0 < m → length cs ≡ 0) → ws ≡ whole
   taken_all h = sym (append-nil ws) ∙ ap (λ r. ws ++ r) (sym (none_left m cs h)) ∙ inv
 
-  module _ (vs : List ℕ) (w n : ℕ) (b : List ℕ) (ds : List (List ℕ)) (more : n + 1 ≡ m) (next : cs ≡ b ∷ ds) (e : w ≡ from_be_bytes w32 b) (p : vs ≡ ws ++ w ∷ []) where
+  module _ (vs : List ℕ) (w n : ℕ) (b : List ℕ) (ds : List (List ℕ)) (more : n + 1 ≡ m) (next : cs ≡ b ∷ ds) (p : vs ≡ ws ++ w ∷ []) (e : w ≡ from_be_bytes w32 b) where
     split : ws ++ until_end w (of_chunks n ds) ≡ whole
     split =
         let s : suc n ≡ m = omega arith in

@@ -20,16 +20,16 @@ push_reserved-requires c = omega (arith, c.loop-chunk.self.room, c.in-Some.ensur
 pub loop-chunk-preserved : goal.loop-chunk-preserved
 loop-chunk-preserved c = record {
   taken = taken_more (first_list c.args.input.now) (vec_items c.loop-chunk.self.words) c.loop-chunk.chunk-iterator.n c.loop-chunk.chunk-iterator.iter.rest.now c.loop-chunk.invariant.taken
-      (vec_items c.push_reserved.new.self) c.from_be_bytes-word.result c.next.new.self.n c.in-Some.chunk.now c.next.new.self.iter.rest.now
-      c.in-Some.ensures.steps.1 c.in-Some.ensures.steps.0 c.from_be_bytes-word.ensures c.push_reserved.ensures.items (sym c.if-is_end.ensures);
+      (vec_items c.push_reserved.new.self) _ c.next.new.self.n c.in-Some.chunk.now c.next.new.self.iter.rest.now
+      c.in-Some.ensures.steps.1 c.in-Some.ensures.steps.0 c.push_reserved.ensures.items (omega arith) (sym c.if-is_end.ensures);
   room = omega (arith, c.in-Some.ensures.steps.1);
 }
 
 pub returns-then-is_end : goal.returns-then-is_end
 returns-then-is_end c =
     taken_end (first_list c.args.input.now) (vec_items c.loop-chunk.self.words) c.loop-chunk.chunk-iterator.n c.loop-chunk.chunk-iterator.iter.rest.now c.loop-chunk.invariant.taken
-    (vec_items c.push_reserved.new.self) c.from_be_bytes-word.result c.next.new.self.n c.in-Some.chunk.now c.next.new.self.iter.rest.now
-    c.in-Some.ensures.steps.1 c.in-Some.ensures.steps.0 c.from_be_bytes-word.ensures c.push_reserved.ensures.items (sym c.if-is_end.ensures)
+    (vec_items c.push_reserved.new.self) _ c.next.new.self.n c.in-Some.chunk.now c.next.new.self.iter.rest.now
+    c.in-Some.ensures.steps.1 c.in-Some.ensures.steps.0 c.push_reserved.ensures.items (omega arith) (sym c.if-is_end.ensures)
 
 pub returns : goal.returns
 returns c = taken_all (first_list c.args.input.now) (vec_items c.loop-chunk.self.words) c.loop-chunk.chunk-iterator.n c.loop-chunk.chunk-iterator.iter.rest.now c.loop-chunk.invariant.taken (λ h. (c.in-None.ensures.steps h).0)
