@@ -97,6 +97,7 @@ fn time_judge(rt: &HostRuntime, room: &SheetRoom, bytes: &[u8]) -> anyhow::Resul
 // Times what standard input has.
 fn run(rt: &HostRuntime) -> anyhow::Result<()> {
     let heap = rt.alloc();
+    let mut room = SheetRoom::reserve(heap)?;
     let mut input = Vec::with_capacity(heap, MOST_BYTES)?;
     rt.stdin().take(MOST_BYTES as u64).read_to_end(&mut input)?;
     if input.is_empty() {
@@ -104,7 +105,6 @@ fn run(rt: &HostRuntime) -> anyhow::Result<()> {
         return Ok(());
     }
     let (sheet, certificate) = split_list(&input);
-    let mut room = SheetRoom::reserve(heap)?;
     time_sheet(rt, &mut room, sheet)?;
     time_judge(rt, &room, certificate)
 }

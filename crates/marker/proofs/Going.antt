@@ -9,9 +9,9 @@ use Rattle.sheet.specs.Sheet.{Sheet}
 use Rattle.claim.specs.ReadCertificate.{judged}
 use Rattle.marker.specs.Input.{word_at, first_word, list_up_to, first_list}
 use Rattle.line.specs.declared.lines.Item.TheVariants.{Stream as StreamItem}
-use Rattle.line.specs.Lines.{refusal_text}
+use Rattle.line.specs.Lines.{refusal_text, claim_text}
 use Rattle.marker.specs.Text.{WholeLines, Printed}
-use Rattle.marker.specs.Stream.{claim_text, Next, goes_on, stops, at_kind, at_word, next, and_then, steps, stream, StepByStep, Done}
+use Rattle.marker.specs.Stream.{Next, goes_on, stops, at_kind, at_word, next, and_then, steps, stream, StepByStep, Done}
 use Rattle.marker.proofs.Whole.{whole_more, whole_refusal, whole_claim}
 
 -- a list has no more words than there are bytes for, and a word if there is one

@@ -40,15 +40,16 @@ module _ (ws : List ℕ) (s : Held) (e : read_sheet ws ≡ accepted (view s)) wh
   pub accepted_line : (n : SheetNumbers) → n ≡ numbers_of (view s) → sheet_text n ≡ sheet_line (read_sheet ws)
   accepted_line n q = ap sheet_text q ∙ ap sheet_line (sym e)
 
-pub accepted_printed : {T E : Type 0} (bytes before mid after : List ℕ) (s : Held) (n : SheetNumbers) (start : ℕ) (r : Result T E)
-    → read_sheet (first_list bytes) ≡ accepted (view s) → n ≡ numbers_of (view s) → start ≡ length (first_list bytes)
-    → mid ≡ before ++ sheet_text n → Printed mid (stream (view s) start (drop (4 * start) bytes)) r after → Printed before (report bytes) r after
-accepted_printed bytes before mid after s n start r e q l h p =
-    let lines : sheet_text n ++ stream (view s) start (drop (4 * start) bytes) ≡ report bytes =
-    ap (λ t. t ++ stream (view s) start (drop (4 * start) bytes)) (ap sheet_text q)
+pub accepted_printed : {T E : Type 0} (bytes before mid after : List ℕ) (s u : Held) (n : SheetNumbers) (start : ℕ) (r : Result T E)
+    → read_sheet (first_list bytes) ≡ accepted (view s) → n ≡ numbers_of (view s) → u ≡ s → mid ≡ before ++ sheet_text n
+    → Printed mid (stream (view u) start (drop (4 * start) bytes)) r after → start ≡ length (first_list bytes) → Printed before (report bytes) r after
+accepted_printed bytes before mid after s u n start r e q f h p l =
+    let lines : sheet_text n ++ stream (view u) start (drop (4 * start) bytes) ≡ report bytes =
+    ap (λ t. t ++ stream (view u) start (drop (4 * start) bytes)) (ap sheet_text q)
+    ∙ ap (λ u. sheet_text (numbers_of (view s)) ++ stream (view u) start (drop (4 * start) bytes)) f
     ∙ ap (λ k. sheet_text (numbers_of (view s)) ++ stream (view s) k (drop (4 * k) bytes)) l
     ∙ ap (λ a. sheet_line a ++ after_sheet a (length (first_list bytes)) bytes) (sym e) in
-    subst (λ x. Printed before x r after) lines (printed_more before after (sheet_text n) mid (stream (view s) start (drop (4 * start) bytes)) r (whole_sheet n) h p)
+    subst (λ x. Printed before x r after) lines (printed_more before after (sheet_text n) mid (stream (view u) start (drop (4 * start) bytes)) r (whole_sheet n) h p)
 
 -- a refused one
 pub refused_held : (ws : List ℕ) (x : Refusal) (s h : Held) → read_sheet ws ≡ refused x → s ≡ h → HeldAfter ws h s

@@ -7,9 +7,8 @@ use Rattle.line.specs.declared.lines.SheetNumbers.{SheetNumbers}
 use Rattle.line.specs.declared.lines.Item.{Item}
 use Rattle.line.specs.declared.lines.Item.TheVariants.{Claim as ClaimItem}
 use Rattle.line.specs.Text.{spaced, line_of}
-use Rattle.line.specs.Lines.{sheet_text, refusal_text, item_text, layer_text}
+use Rattle.line.specs.Lines.{sheet_text, refusal_text, claim_text, item_text, layer_text}
 use Rattle.marker.specs.Text.{WholeLines}
-use Rattle.marker.specs.Stream.{claim_text}
 
 pub whole_more : (a b : List ℕ) → WholeLines a → WholeLines b → WholeLines (a ++ b)
 whole_more a b h (inl e) = subst WholeLines (sym (ap (λ z. a ++ z) e ∙ append-nil a)) h

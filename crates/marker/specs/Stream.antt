@@ -3,17 +3,12 @@ use Rattle.std.specs.Prelude.{◌≡◌, ℕ, zero, suc, ◌+◌, ◌*◌, List,
 use Rattle.std.specs.declared.alloc.AllocError.{AllocError}
 use Rattle.words.specs.declared.word.Kind.{Kind}
 use Rattle.words.specs.declared.word.Kind.TheVariants.{Reserved as NONE, Head as HEAD, Block as BLOCK, LBlock as LBLOCK, Cost as COST, Edge as EDGE, Loop as LOOP, Back as BACK, Fact as FACT, Claim as CLAIM, High as HIGH, Low as LOW, Start as START, Step as STEP, Finish as FINISH, End as END}
-use Rattle.words.specs.Words.{kind, Answer, accepted, refused, refusal, not_due, ends_early}
+use Rattle.words.specs.Words.{kind, refusal, not_due, ends_early}
 use Rattle.sheet.specs.Sheet.{Sheet}
 use Rattle.claim.specs.ReadCertificate.{judged}
-use Rattle.line.specs.declared.lines.Item.TheVariants.{Claim as ClaimItem, Stream as StreamItem}
-use Rattle.line.specs.Lines.{accepted_text, refusal_text}
+use Rattle.line.specs.declared.lines.Item.TheVariants.{Stream as StreamItem}
+use Rattle.line.specs.Lines.{claim_text, refusal_text}
 use Rattle.marker.specs.Input.{first_word, first_list}
-
--- the line of a certificate that was judged
-abbrev pub claim_text : Answer ℕ → List ℕ
-claim_text (accepted cycles) = accepted_text cycles
-claim_text (refused r) = refusal_text ClaimItem r
 
 -- What is done at a place of the input: a text is printed, and reading goes on after so many words, or stops.
 pub data Next : Type 0 where

@@ -3,7 +3,8 @@ ghost use Rattle.std.specs.Prelude.{◌*◌, ◌≤◌, length, drop};
 ghost use Rattle.sheet.specs.View.{view};
 ghost use Rattle.claim.specs.ReadCertificate.{judged};
 ghost use Rattle.marker.specs.Text.{Appended, Printed};
-ghost use Rattle.marker.specs.Stream.{claim_text, next as next_of, stream as stream_of, Done};
+ghost use Rattle.line.specs.Lines.{claim_text};
+ghost use Rattle.marker.specs.Stream.{next as next_of, stream as stream_of, Done};
 
 use crate::input::{WordList, first_word};
 use crate::text::append;

@@ -1,9 +1,6 @@
-use Rattle.std.proofs.Common.{◌*◌, length, drop, vec_items, ap, ◌∙◌, subst, arith}
+use Rattle.std.proofs.Common.{length, vec_items, ap, arith}
 use Rattle.std.proofs.lemmas.Result.{err_from_is_err_and}
-use Rattle.sheet.specs.View.{view}
 use Rattle.marker.specs.Report.{report}
-use Rattle.marker.specs.Stream.{stream}
-use Rattle.marker.specs.Text.{Printed}
 use Rattle.marker.proofs.Going.{list_within, step_by_step}
 use Rattle.marker.proofs.Reporting.{printed_none, accepted_printed, refused_printed}
 use Rattle.marker.proofs.report.Marker.mark.Goals as goal
@@ -13,10 +10,9 @@ stream-requires c = omega (arith, list_within 4096 c.args.input.now, ap length c
 
 pub returns-in_ok-append-in-Ok-clause-printed : goal.returns-in_ok-append-in-Ok-clause-printed
 returns-in_ok-append-in-Ok-clause-printed c =
-    accepted_printed c.args.input.now (vec_items c.args.text.now) (vec_items c.append.new.text) (vec_items c.stream.new.text) c.read.new.self.room.sheet c.in-Ok.numbers
-    c.len-start.result c.stream.result c.in-Ok.ensures.answer.0 c.in-Ok.ensures.answer.1 (c.len-start.ensures ∙ ap length c.read.ensures.list) c.in_ok-append-in-Ok.ensures
-    (subst (λ s. Printed (vec_items c.append.new.text) (stream (view s) c.len-start.result (drop (4 * c.len-start.result) c.args.input.now)) c.stream.result (vec_items c.stream.new.text))
-    c.sheet.ensures c.stream.ensures)
+    accepted_printed c.args.input.now (vec_items c.args.text.now) (vec_items c.append.new.text) (vec_items c.stream.new.text) c.read.new.self.room.sheet c.sheet.result.now c.in-Ok.numbers
+    _ c.stream.result c.in-Ok.ensures.answer.0 c.in-Ok.ensures.answer.1 c.sheet.ensures c.in_ok-append-in-Ok.ensures c.stream.ensures
+    (omega (arith, c.len-start.ensures, ap length c.read.ensures.list))
 
 pub returns-in_ok-append-in-Ok-clause-laws : goal.returns-in_ok-append-in-Ok-clause-laws
 returns-in_ok-append-in-Ok-clause-laws c = step_by_step
