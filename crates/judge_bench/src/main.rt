@@ -17,46 +17,23 @@ const MOST_BYTES: usize = 32768;
 // How often a thing is timed.
 const ROUNDS: usize = 401;
 
-// Fills the buffer from standard input, and answers how many bytes came before the input's end.
-fn fill(rt: &HostRuntime, buffer: &mut [u8]) -> io::Result<usize> {
-    let mut input = rt.stdin();
-    let mut filled = 0;
-    for _ in 0..MOST_BYTES {
-        if filled >= buffer.len() {
-            break;
-        }
-        let n = input.read(&mut buffer[filled..])?;
-        if n == 0 {
-            break;
-        }
-        filled += n;
-    }
-    Ok(filled)
-}
-
 // The big-endian words of the bytes.
 fn words_of(heap: Global, bytes: &[u8]) -> Result<Vec<u32>, AllocError> {
-    let mut words = Vec::with_capacity(heap, bytes.len() / 4)?;
-    let mut rest = bytes;
-    for _ in 0..bytes.len() {
-        let [a, b, c, d, tail @ ..] = rest else {
-            break;
-        };
-        words.push(u32::from_be_bytes([*a, *b, *c, *d]))?;
-        rest = tail;
-    }
-    Ok(words)
+    let (chunks, _) = bytes.as_chunks::<4>();
+    chunks
+        .iter()
+        .map(|chunk| u32::from_be_bytes(*chunk))
+        .collect(heap)
 }
 
-// The bytes of the first list: up to its END, or all.
-fn first_list(heap: Global, bytes: &[u8]) -> Result<usize, AllocError> {
-    let words = words_of(heap, bytes)?;
-    for (i, word) in words.iter().enumerate() {
-        if matches!(Kind::from(*word), Kind::End) {
-            return Ok(i.saturating_add(1).saturating_mul(4).min(bytes.len()));
-        }
+// The bytes of the first list, up to its END, and those that follow it; none follow where there is no END.
+fn split_list(bytes: &[u8]) -> (&[u8], &[u8]) {
+    let (chunks, _) = bytes.as_chunks::<4>();
+    let end = chunks.iter().position(|chunk| Kind::from(u32::from_be_bytes(*chunk)) == Kind::End);
+    match end {
+        Some(place) => bytes.split_at(4 * (place + 1)),
+        None => (bytes, &[]),
     }
-    Ok(bytes.len())
 }
 
 // A span in nanoseconds.
@@ -120,16 +97,16 @@ fn time_judge(rt: &HostRuntime, room: &SheetRoom, bytes: &[u8]) -> anyhow::Resul
 // Times what standard input has.
 fn run(rt: &HostRuntime) -> anyhow::Result<()> {
     let heap = rt.alloc();
-    let mut buffer = vec![in heap; 0u8; MOST_BYTES]?;
-    let filled = fill(rt, &mut buffer)?.min(buffer.len());
-    if filled == 0 {
+    let mut room = SheetRoom::reserve(heap)?;
+    let mut input = Vec::with_capacity(heap, MOST_BYTES)?;
+    rt.stdin().take(MOST_BYTES as u64).read_to_end(&mut input)?;
+    if input.is_empty() {
         println!(rt; "nothing to time")?;
         return Ok(());
     }
-    let split = first_list(heap, &buffer[0..filled])?.min(filled);
-    let mut room = SheetRoom::reserve(heap)?;
-    time_sheet(rt, &mut room, &buffer[0..split])?;
-    time_judge(rt, &room, &buffer[split..filled])
+    let (sheet, certificate) = split_list(&input);
+    time_sheet(rt, &mut room, sheet)?;
+    time_judge(rt, &room, certificate)
 }
 
 // Reports what goes wrong.

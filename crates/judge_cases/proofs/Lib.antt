@@ -1,2 +1,1 @@
-pub mod Begin
 pub mod Spelling

@@ -1,19 +1,22 @@
--- For code: the words of bytes, one after another. Assumes nothing.
-use Rattle.std.proofs.Common.{◌≡◌, ℕ, ◌+◌, ◌*◌, ◌≤◌, List, [], ◌∷◌, ◌++◌, length, get_or, drop, sym, ap, ◌∙◌, arith}
-use Rattle.std.proofs.lemmas.List.{append_assoc}
+-- For code: the words of bytes, from chunks of four bytes. Assumes nothing.
+use Rattle.std.proofs.Common.{◌≡◌, ℕ, zero, suc, ◌+◌, ◌*◌, ◌/◌, ◌<◌, ◌≤◌, List, [], ◌∷◌, map, length, refl, ap, ◌∙◌, arith, w32}
+use Rattle.std.specs.Int.{from_be_bytes}
+use Rattle.std.specs.Simd.{first_chunks}
 use Rattle.judge_cases.specs.Container.{words_of}
 
--- the first word, and the words of the other bytes
-first_word : (bs : List ℕ) (w : ℕ) → 4 ≤ length bs → w ≡ get_or bs 0 0 * 16777216 + get_or bs 1 0 * 65536 + get_or bs 2 0 * 256 + get_or bs 3 0 → words_of bs ≡ w ∷ words_of (drop 4 bs)
-first_word [] w h e = absurd (omega arith)
-first_word (a ∷ []) w h e = absurd (omega arith)
-first_word (a ∷ b ∷ []) w h e = absurd (omega arith)
-first_word (a ∷ b ∷ c ∷ []) w h e = absurd (omega arith)
-first_word (a ∷ b ∷ c ∷ d ∷ bs) w h e = ap (λ x. x ∷ words_of bs) (sym e)
+chunked : (k : ℕ) (bs : List ℕ) → k * 4 ≤ length bs → length bs < k * 4 + 4 → map (from_be_bytes w32) (first_chunks 4 k bs) ≡ words_of bs
+chunked zero [] h l = refl
+chunked zero (a ∷ []) h l = refl
+chunked zero (a ∷ b ∷ []) h l = refl
+chunked zero (a ∷ b ∷ c ∷ []) h l = refl
+chunked zero (a ∷ b ∷ c ∷ d ∷ bs) h l = absurd (omega arith)
+chunked (suc k) [] h l = absurd (omega arith)
+chunked (suc k) (a ∷ []) h l = absurd (omega arith)
+chunked (suc k) (a ∷ b ∷ []) h l = absurd (omega arith)
+chunked (suc k) (a ∷ b ∷ c ∷ []) h l = absurd (omega arith)
+chunked (suc k) (a ∷ b ∷ c ∷ d ∷ bs) h l =
+    let w : from_be_bytes w32 (a ∷ b ∷ c ∷ d ∷ []) ≡ a * 16777216 + b * 65536 + c * 256 + d = omega arith in
+    ap (λ ws. from_be_bytes w32 (a ∷ b ∷ c ∷ d ∷ []) ∷ ws) (chunked k bs (omega arith) (omega arith)) ∙ ap (λ w. w ∷ words_of bs) w
 
--- the words ws are there, bs are the bytes that are left, and the next word is pushed
-pub one_more : (whole ws vs bs tail : List ℕ) (w : ℕ) → ws ++ words_of bs ≡ whole → 4 ≤ length bs
-    → w ≡ get_or bs 0 0 * 16777216 + get_or bs 1 0 * 65536 + get_or bs 2 0 * 256 + get_or bs 3 0 → vs ≡ ws ++ (w ∷ []) → tail ≡ drop 4 bs → vs ++ words_of tail ≡ whole
-one_more whole ws vs bs tail w inv h e p t =
-    ap (λ vs. vs ++ words_of tail) p ∙ append_assoc ws (w ∷ []) (words_of tail) ∙ ap (λ t. ws ++ (w ∷ words_of t)) t
-    ∙ ap (λ r. ws ++ r) (sym (first_word bs w h e)) ∙ inv
+pub spelled : (bs : List ℕ) → map (from_be_bytes w32) (first_chunks 4 (length bs / 4) bs) ≡ words_of bs
+spelled bs = chunked (length bs / 4) bs (omega arith) (omega arith)

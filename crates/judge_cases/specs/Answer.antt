@@ -4,13 +4,8 @@ use Rattle.words.specs.Words.{Answer, accepted, refused}
 use Rattle.sheet.specs.Sheet.{Sheet}
 use Rattle.sheet.specs.ReadSheet.{read_sheet}
 use Rattle.claim.specs.ReadCertificate.{judged}
-use Rattle.line.specs.declared.lines.Item.TheVariants.{Sheet as SheetItem, Claim as ClaimItem}
-use Rattle.line.specs.Lines.{accepted_text, refusal_text}
-
--- the line of a certificate that was judged
-abbrev pub claim_text : Answer ℕ → List ℕ
-claim_text (accepted cycles) = accepted_text cycles
-claim_text (refused r) = refusal_text ClaimItem r
+use Rattle.line.specs.declared.lines.Item.TheVariants.{Sheet as SheetItem}
+use Rattle.line.specs.Lines.{claim_text, refusal_text}
 
 -- the line of a sheet that was read and a certificate
 abbrev pub sheet_text : Answer Sheet → List ℕ → List ℕ

@@ -1,11 +1,26 @@
 // The line of a case.
+ghost use Rattle.std.specs.Prelude.{◌≡◌, MatchResult};
+ghost use Rattle.words.specs.Words.{accepted, refused};
+ghost use Rattle.line.specs.Lines.{accepted_text, refusal_text};
 ghost use Rattle.line.specs.Written.{Written};
 ghost use Rattle.judge_cases.specs.Answer.{case_text};
 
+use claim::amount::Cycles;
 use claim::judge::judge;
 use line::fault::LineFault;
-use line::lines::{Item, accepted_line, refusal_line};
+use line::lines::{Accepted, Item, Line, Refused};
 use sheet::room::SheetRoom;
+
+// Reads the sheet, and judges the certificate.
+fn judged(room: &mut SheetRoom, sheet: &[u32], certificate: &[u32]) -> Result<Cycles, Refused>
+    ensures { MatchResult result
+        (λ cycles. case_text sheet.now certificate.now ≡ accepted_text cycles.0)
+        (λ r. case_text sheet.now certificate.now ≡ refusal_text r.item r.refusal) }
+{
+    room.read(sheet)
+        .map_err(|fault| Refused::new(Item::Sheet, &fault))?;
+    judge(room.sheet(), certificate).map_err(|fault| Refused::new(Item::Claim, &fault))
+}
 
 // Reads the sheet, judges the certificate, and writes the line of the answer; the place after the line is answered.
 pub(crate) fn answer(
@@ -16,11 +31,8 @@ pub(crate) fn answer(
 ) -> Result<usize, LineFault>
     ensures { Written out.old 0 (case_text sheet.now certificate.now) result out.new }
 {
-    match room.read(sheet) {
-        Ok(()) => match judge(room.sheet(), certificate) {
-            Ok(cycles) => accepted_line(out, 0, cycles.0),
-            Err(fault) => refusal_line(out, 0, Item::Claim, &fault),
-        },
-        Err(fault) => refusal_line(out, 0, Item::Sheet, &fault),
+    match judged(room, sheet, certificate) {
+        Ok(cycles) => Accepted { cycles: cycles.0 }.write(out, 0),
+        Err(refused) => refused.write(out, 0),
     }
 }

@@ -10,16 +10,16 @@ pub(crate) fn words_of(heap: Global, bytes: &[u8]) -> anyhow::Result<Vec<u32>>
     ensures items { IfOk result (λ words. words.items ≡ words_of bytes.now) }
     ensures len { IfOk result (λ words. 4 * vec_len words ≡ length bytes.now) }
 {
-    let mut words = Vec::new(heap);
-    let mut rest = bytes;
-    while let [a, b, c, d, tail @ ..] = rest {
-        words.push(u32::from_be_bytes([*a, *b, *c, *d]))?;
-        rest = tail;
-    }
+    let (chunks, rest) = bytes.as_chunks::<4>();
     if !rest.is_empty() {
         return Err(anyhow!("the last word is cut short"));
     }
-    Ok(words)
+    Ok(
+        chunks
+            .iter()
+            .map(|chunk| u32::from_be_bytes(*chunk))
+            .collect(heap)?,
+    )
 }
 
 // The first list, and what follows it; none where the words end before it does.
@@ -27,12 +27,6 @@ pub(crate) fn take_list(words: &[u32]) -> Option<(&[u32], &[u32])>
     ensures cases { MatchOption result (Cut words.now) (λ x. Begins words.now x.0.now x.1.now) }
     ensures bound { IfSome result (λ x. length x.1.now < length words.now) }
 {
-    let [count, rest @ ..] = words else {
-        return None;
-    };
-    let count = *count as usize;
-    if rest.len() < count {
-        return None;
-    }
-    Some(rest.split_at(count))
+    let (count, rest) = words.split_first()?;
+    rest.split_at_checked(*count as usize)
 }

@@ -1,5 +1,6 @@
 -- The text of each line. Assumes nothing.
 use Rattle.std.specs.Prelude.{ℕ, List, [], ◌∷◌, codes, decimal}
+use Rattle.words.specs.Words.{Answer, accepted, refused}
 use Rattle.words.specs.declared.refusal.Refusal.{Refusal}
 use Rattle.words.specs.declared.refusal.Layer.{Layer}
 use Rattle.words.specs.declared.refusal.Layer.TheVariants.{Words as words, Sheet as sheet, Claim as claim, Run as run, Line as line}
@@ -42,3 +43,8 @@ layer_text line = codes "line"
 abbrev pub refusal_text : Item → Refusal → List ℕ
 refusal_text item r =
     line_of (item_text item ∷ codes "refused" ∷ decimal r.number ∷ codes "at" ∷ decimal r.place ∷ codes "in" ∷ layer_text r.layer ∷ [])
+
+-- the line of a certificate that was judged
+abbrev pub claim_text : Answer ℕ → List ℕ
+claim_text (accepted cycles) = accepted_text cycles
+claim_text (refused r) = refusal_text Claim r

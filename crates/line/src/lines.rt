@@ -1,5 +1,5 @@
 // The lines of the program.
-ghost use Rattle.std.specs.Prelude.{◌≡◌, ◌≤◌, length};
+ghost use Rattle.std.specs.Prelude.{◌≡◌, ℕ, ◌≤◌, List, length};
 ghost use Rattle.line.specs.Fields.{word_text};
 ghost use Rattle.line.specs.Lines.{sheet_text, accepted_text, refusal_text, item_text, layer_text};
 ghost use Rattle.line.specs.Written.{Written};
@@ -7,7 +7,7 @@ ghost use Rattle.line.specs.Written.{Written};
 use crate::fault::LineFault;
 use crate::field::{Field, Word};
 use crate::layout::write_line;
-use words::refusal::{Layer, Refuse};
+use words::refusal::{Layer, Refusal, Refuse};
 
 // No line has more bytes.
 pub const MOST_LINE: usize = 256;
@@ -32,77 +32,113 @@ pub enum Item {
     Stream,
 }
 
-// Writes `sheet blocks B edges E lblocks L rows R columns C`.
-pub fn sheet_line(out: &mut [u8], at: usize, n: &SheetNumbers) -> Result<usize, LineFault>
-    ensures written { Written out.old at (sheet_text n.now) result out.new }
-    ensures bound { length (sheet_text n.now) ≤ 256 }
-{
-    let fields = [
-        Field::Word(Word::Blocks),
-        Field::Number(n.blocks as u64),
-        Field::Word(Word::Edges),
-        Field::Number(n.edges as u64),
-        Field::Word(Word::LBlocks),
-        Field::Number(n.lblocks as u64),
-        Field::Word(Word::Rows),
-        Field::Number(n.rows as u64),
-        Field::Word(Word::Columns),
-        Field::Number(n.columns as u64),
-    ];
-    write_line(out, at, Word::Sheet, &fields)
+// A certificate is accepted, with the cycles that it claims.
+#[derive(Clone, Copy, PartialEq, Eq, Debug)]
+pub struct Accepted {
+    pub cycles: u64,
 }
 
-// Writes `accepted W`.
-pub fn accepted_line(out: &mut [u8], at: usize, cycles: u64) -> Result<usize, LineFault>
-    ensures written { Written out.old at (accepted_text cycles) result out.new }
-    ensures bound { length (accepted_text cycles) ≤ 256 }
-{
-    write_line(out, at, Word::Accepted, &[Field::Number(cycles)])
+// An item is refused.
+#[derive(Clone, Copy, PartialEq, Eq, Debug)]
+pub struct Refused {
+    pub item: Item,
+    pub refusal: Refusal,
 }
 
-// Writes `ITEM refused NUMBER at PLACE in LAYER`.
-pub fn refusal_line<F: Refuse>(
-    out: &mut [u8],
-    at: usize,
-    item: Item,
-    fault: &F,
-) -> Result<usize, LineFault>
-    ensures written { Written out.old at (refusal_text item (F.Refuse.means fault.now)) result out.new }
-    ensures bound { length (refusal_text item (F.Refuse.means fault.now)) ≤ 256 }
-{
-    let refusal = fault.refusal();
-    let fields = [
-        Field::Word(Word::Refused),
-        Field::Number(refusal.number as u64),
-        Field::Word(Word::At),
-        Field::Number(refusal.place as u64),
-        Field::Word(Word::In),
-        Field::Word(layer_word(refusal.layer)),
-    ];
-    write_line(out, at, item_word(item), &fields)
-}
-
-fn item_word(item: Item) -> Word
-    ensures { word_text result ≡ item_text item }
-{
-    match item {
-        Item::Sheet => Word::Sheet,
-        Item::Claim => Word::Claim,
-        Item::Step => Word::Step,
-        Item::Finish => Word::Finish,
-        Item::Stream => Word::Stream,
+impl Refused {
+    pub fn new<F: Refuse>(item: Item, fault: &F) -> Refused
+        ensures item { result.item ≡ item }
+        ensures refusal { result.refusal ≡ F.means fault.now }
+    {
+        Refused {
+            item,
+            refusal: fault.refusal(),
+        }
     }
 }
 
-fn layer_word(layer: Layer) -> Word
-    ensures { word_text result ≡ layer_text layer }
-{
-    match layer {
-        Layer::Words => Word::Words,
-        Layer::Sheet => Word::Sheet,
-        Layer::Claim => Word::Claim,
-        Layer::Run => Word::Run,
-        Layer::Line => Word::Line,
+// A line of the program.
+pub trait Line {
+    ghost text: { Self → List ℕ };
+
+    // Writes the line from `at` on, if `out` has room for it, and answers the place after it.
+    fn write(&self, out: &mut [u8], at: usize) -> Result<usize, LineFault>
+        ensures written { Written out.old at (text self.now) result out.new }
+        ensures bound { length (text self.now) ≤ MOST_LINE };
+}
+
+// `sheet blocks B edges E lblocks L rows R columns C`
+impl Line for SheetNumbers {
+    ghost text = { sheet_text };
+
+    fn write(&self, out: &mut [u8], at: usize) -> Result<usize, LineFault> {
+        let fields = [
+            Field::Word(Word::Blocks),
+            Field::Number(self.blocks as u64),
+            Field::Word(Word::Edges),
+            Field::Number(self.edges as u64),
+            Field::Word(Word::LBlocks),
+            Field::Number(self.lblocks as u64),
+            Field::Word(Word::Rows),
+            Field::Number(self.rows as u64),
+            Field::Word(Word::Columns),
+            Field::Number(self.columns as u64),
+        ];
+        write_line(out, at, Word::Sheet, &fields)
+    }
+}
+
+// `accepted W`
+impl Line for Accepted {
+    ghost text = { λ line. accepted_text line.cycles };
+
+    fn write(&self, out: &mut [u8], at: usize) -> Result<usize, LineFault> {
+        write_line(out, at, Word::Accepted, &[Field::Number(self.cycles)])
+    }
+}
+
+// `ITEM refused NUMBER at PLACE in LAYER`
+impl Line for Refused {
+    ghost text = { λ line. refusal_text line.item line.refusal };
+
+    fn write(&self, out: &mut [u8], at: usize) -> Result<usize, LineFault> {
+        let fields = [
+            Field::Word(Word::Refused),
+            Field::Number(self.refusal.number as u64),
+            Field::Word(Word::At),
+            Field::Number(self.refusal.place as u64),
+            Field::Word(Word::In),
+            Field::Word(self.refusal.layer.into()),
+        ];
+        write_line(out, at, self.item.into(), &fields)
+    }
+}
+
+impl From<Item> for Word {
+    ghost from_gives = { λ item word. word_text word ≡ item_text item };
+
+    fn from(item: Item) -> Word {
+        match item {
+            Item::Sheet => Word::Sheet,
+            Item::Claim => Word::Claim,
+            Item::Step => Word::Step,
+            Item::Finish => Word::Finish,
+            Item::Stream => Word::Stream,
+        }
+    }
+}
+
+impl From<Layer> for Word {
+    ghost from_gives = { λ layer word. word_text word ≡ layer_text layer };
+
+    fn from(layer: Layer) -> Word {
+        match layer {
+            Layer::Words => Word::Words,
+            Layer::Sheet => Word::Sheet,
+            Layer::Claim => Word::Claim,
+            Layer::Run => Word::Run,
+            Layer::Line => Word::Line,
+        }
     }
 }
 
@@ -123,7 +159,7 @@ mod tests {
     #[test]
     fn sheet_lines(rt: HostRuntime) -> Result<(), Fail> {
         let mut out = [b'.'; 55];
-        assert_eq!(rt; sheet_line(&mut out, 1, &DRUM)?, 53);
+        assert_eq!(rt; DRUM.write(&mut out, 1)?, 53);
         assert!(rt; out[..] == b".sheet blocks 3 edges 3 lblocks 3 rows 18 columns 15\n.."[..]);
         let ends = SheetNumbers {
             blocks: 0,
@@ -133,7 +169,7 @@ mod tests {
             columns: 100,
         };
         let mut out = [b'.'; 72];
-        assert_eq!(rt; sheet_line(&mut out, 0, &ends)?, 72);
+        assert_eq!(rt; ends.write(&mut out, 0)?, 72);
         assert!(rt;
             out[..]
                 == b"sheet blocks 0 edges 18446744073709551615 lblocks 10 rows 9 columns 100\n"[..]
@@ -144,8 +180,10 @@ mod tests {
     #[test]
     fn refusal_lines(rt: HostRuntime) -> Result<(), Fail> {
         let mut out = [b'.'; 64];
-        let at = refusal_line(&mut out, 0, Item::Sheet, &WordFault::EndsEarly(0))?;
-        let at = refusal_line(&mut out, at, Item::Stream, &LineFault::TooShort(52))?;
+        let sheet = Refused::new(Item::Sheet, &WordFault::EndsEarly(0));
+        let stream = Refused::new(Item::Stream, &LineFault::TooShort(52));
+        let at = sheet.write(&mut out, 0)?;
+        let at = stream.write(&mut out, at)?;
         assert_eq!(rt; at, 62);
         assert!(rt;
             out[..] == b"sheet refused 2 at 0 in words\nstream refused 21 at 52 in line\n.."[..]
@@ -156,8 +194,9 @@ mod tests {
     #[test]
     fn accepted_lines(rt: HostRuntime) -> Result<(), Fail> {
         let mut out = [b'.'; 43];
-        let at = accepted_line(&mut out, 0, 45)?;
-        assert_eq!(rt; accepted_line(&mut out, at, u64::MAX)?, 42);
+        let at = Accepted { cycles: 45 }.write(&mut out, 0)?;
+        let most = Accepted { cycles: u64::MAX };
+        assert_eq!(rt; most.write(&mut out, at)?, 42);
         assert!(rt; out[..] == b"accepted 45\naccepted 18446744073709551615\n."[..]);
         Ok(())
     }
@@ -165,12 +204,9 @@ mod tests {
     #[test]
     fn too_short(rt: HostRuntime) {
         let mut out = [b'.'; 52];
+        assert_eq!(rt; DRUM.write(&mut out, 1), Err(LineFault::TooShort(52)));
         assert_eq!(rt;
-            sheet_line(&mut out, 1, &DRUM),
-            Err(LineFault::TooShort(52))
-        );
-        assert_eq!(rt;
-            sheet_line(&mut out, usize::MAX, &DRUM),
+            DRUM.write(&mut out, usize::MAX),
             Err(LineFault::TooShort(52))
         );
         assert!(rt; out[..] == [b'.'; 52][..]);

@@ -1,6 +1,6 @@
 -- Inputs with their number of bytes before them. Assumes nothing.
 use Rattle.std.specs.Prelude.{◌≡◌, ℕ, List, ◌++◌, length, drop, Some}
-use Rattle.claim_marker.specs.Input.{first_word}
+use Rattle.marker.specs.Input.{first_word}
 
 -- The bytes begin with a number, and so many bytes follow it: the input, and then the rest.
 abbrev pub Begins : List ℕ → List ℕ → List ℕ → Type 0

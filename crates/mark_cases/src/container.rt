@@ -7,12 +7,6 @@ pub(crate) fn take_input(bytes: &[u8]) -> Option<(&[u8], &[u8])>
     ensures cases { MatchOption result (Cut bytes.now) (λ x. Begins bytes.now x.0.now x.1.now) }
     ensures bound { IfSome result (λ x. length x.1.now < length bytes.now) }
 {
-    let [a, b, c, d, rest @ ..] = bytes else {
-        return None;
-    };
-    let count = u32::from_be_bytes([*a, *b, *c, *d]) as usize;
-    if rest.len() < count {
-        return None;
-    }
-    Some(rest.split_at(count))
+    let (count, rest) = bytes.split_first_chunk::<4>()?;
+    rest.split_at_checked(u32::from_be_bytes(*count) as usize)
 }

@@ -4,8 +4,8 @@
 mod container;
 
 use anyhow::Context;
-use claim_marker::report::Marker;
 use container::take_input;
+use marker::report::Marker;
 use std::io::{Read, Write};
 
 // Prints the lines of one input, and an empty line.

@@ -1,7 +1,7 @@
 // Marks the words of standard input, and prints the lines.
 #![tactic(auto)]
 
-use claim_marker::report::Marker;
+use marker::report::Marker;
 use std::io::{Read, Write};
 
 fn run(rt: &HostRuntime) -> anyhow::Result<()> {

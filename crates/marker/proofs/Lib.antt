@@ -1,2 +1,4 @@
 pub mod Taking
+pub mod Whole
+pub mod Going
 pub mod Reporting

@@ -1,56 +1,64 @@
--- For code: the first list, one word after another. Assumes nothing.
-use Rattle.std.proofs.Common.{◌≡◌, ℕ, zero, suc, ◌-◌, ◌<◌, ◌≤◌, true, false, List, [], ◌∷◌, ◌++◌, length, get_or, drop, sym, refl, ap, ◌∙◌, arith}
+-- For code: the first list, one chunk of four bytes after another. Assumes nothing.
+use Rattle.std.proofs.Common.{◌≡◌, ℕ, zero, suc, ◌+◌, ◌*◌, ◌/◌, ◌<◌, ◌≤◌, Bool, true, false, List, [], ◌∷◌, ◌++◌, length, sym, refl, ap, ◌∙◌, arith, w32}
+use Rattle.std.specs.Int.{from_be_bytes}
+use Rattle.std.specs.Simd.{first_chunks}
 use Rattle.std.proofs.lemmas.List.{append-nil, append_assoc}
 use Rattle.words.specs.Words.{kind, same_kind}
 use Rattle.words.specs.declared.word.Kind.TheVariants.{End as END}
-use Rattle.marker.specs.Input.{word_at, list_up_to}
+use Rattle.marker.specs.Input.{word_at, list_up_to, first_list}
 
--- fewer than four bytes are no word
-pub none_short : (n : ℕ) (bs : List ℕ) → length bs < 4 → list_up_to n bs ≡ []
-none_short zero bs h = refl
-none_short (suc n) [] h = refl
-none_short (suc n) (a ∷ []) h = refl
-none_short (suc n) (a ∷ b ∷ []) h = refl
-none_short (suc n) (a ∷ b ∷ c ∷ []) h = refl
-none_short (suc n) (a ∷ b ∷ c ∷ d ∷ bs) h = absurd (omega arith)
+-- a word, and those that follow it, unless it is END
+abbrev pub until_end : ℕ → List ℕ → List ℕ
+until_end w ws = w ∷ elim (same_kind (kind w) END) [ true ↦ [] | false ↦ ws ]
 
-module _ (n : ℕ) where
-  up_to_end : (bs : List ℕ) (w : ℕ) → 4 ≤ length bs → w ≡ word_at (get_or bs 0 0) (get_or bs 1 0) (get_or bs 2 0) (get_or bs 3 0) → same_kind (kind w) END ≡ true → list_up_to (suc n) bs ≡ w ∷ []
-  up_to_end [] w h e t = absurd (omega arith)
-  up_to_end (a ∷ []) w h e t = absurd (omega arith)
-  up_to_end (a ∷ b ∷ []) w h e t = absurd (omega arith)
-  up_to_end (a ∷ b ∷ c ∷ []) w h e t = absurd (omega arith)
-  up_to_end (a ∷ b ∷ c ∷ d ∷ bs) w h e t =
-      let z : same_kind (kind (word_at a b c d)) END ≡ true = ap (λ x. same_kind (kind x) END) (sym e) ∙ t in
-      ap (λ x. word_at a b c d ∷ (elim x [ true ↦ [] | false ↦ list_up_to n bs ])) z ∙ ap (λ x. x ∷ []) (sym e)
+-- the list of at most so many words, from chunks
+abbrev pub of_chunks : ℕ → List (List ℕ) → List ℕ
+of_chunks zero cs = []
+of_chunks (suc n) [] = []
+of_chunks (suc n) (c ∷ cs) = until_end (from_be_bytes w32 c) (of_chunks n cs)
 
-  up_to_more : (bs : List ℕ) (w : ℕ) → 4 ≤ length bs → w ≡ word_at (get_or bs 0 0) (get_or bs 1 0) (get_or bs 2 0) (get_or bs 3 0) → same_kind (kind w) END ≡ false
-      → list_up_to (suc n) bs ≡ w ∷ list_up_to n (drop 4 bs)
-  up_to_more [] w h e t = absurd (omega arith)
-  up_to_more (a ∷ []) w h e t = absurd (omega arith)
-  up_to_more (a ∷ b ∷ []) w h e t = absurd (omega arith)
-  up_to_more (a ∷ b ∷ c ∷ []) w h e t = absurd (omega arith)
-  up_to_more (a ∷ b ∷ c ∷ d ∷ bs) w h e t =
-      let z : same_kind (kind (word_at a b c d)) END ≡ false = ap (λ x. same_kind (kind x) END) (sym e) ∙ t in
-      ap (λ x. word_at a b c d ∷ (elim x [ true ↦ [] | false ↦ list_up_to n bs ])) z ∙ ap (λ x. x ∷ list_up_to n bs) (sym e)
+chunked : (n k : ℕ) (bs : List ℕ) → k * 4 ≤ length bs → length bs < k * 4 + 4 → of_chunks n (first_chunks 4 k bs) ≡ list_up_to n bs
+chunked zero k bs h l = refl
+chunked (suc n) zero [] h l = refl
+chunked (suc n) zero (a ∷ []) h l = refl
+chunked (suc n) zero (a ∷ b ∷ []) h l = refl
+chunked (suc n) zero (a ∷ b ∷ c ∷ []) h l = refl
+chunked (suc n) zero (a ∷ b ∷ c ∷ d ∷ bs) h l = absurd (omega arith)
+chunked (suc n) (suc k) [] h l = absurd (omega arith)
+chunked (suc n) (suc k) (a ∷ []) h l = absurd (omega arith)
+chunked (suc n) (suc k) (a ∷ b ∷ []) h l = absurd (omega arith)
+chunked (suc n) (suc k) (a ∷ b ∷ c ∷ []) h l = absurd (omega arith)
+chunked (suc n) (suc k) (a ∷ b ∷ c ∷ d ∷ bs) h l =
+    let w : from_be_bytes w32 (a ∷ b ∷ c ∷ d ∷ []) ≡ word_at a b c d = omega arith in
+    ap (until_end (from_be_bytes w32 (a ∷ b ∷ c ∷ d ∷ []))) (chunked n k bs (omega arith) (omega arith))
+    ∙ ap (λ w. until_end w (list_up_to n bs)) w
 
--- the words ws are taken, m may still come, and bs are the bytes that are left
-module _ (whole ws bs : List ℕ) (m : ℕ) (inv : ws ++ list_up_to m bs ≡ whole) where
-  pub taken_all : (m ≡ 0) → ws ≡ whole
-  taken_all e = sym (append-nil ws) ∙ ap (λ k. ws ++ list_up_to k bs) (sym e) ∙ inv
+pub begun : (bs : List ℕ) → [] ++ of_chunks 4096 (first_chunks 4 (length bs / 4) bs) ≡ first_list bs
+begun bs = chunked 4096 (length bs / 4) bs (omega arith) (omega arith)
 
-  pub taken_short : length bs < 4 → ws ≡ whole
-  taken_short h = sym (append-nil ws) ∙ ap (λ r. ws ++ r) (sym (none_short m bs h)) ∙ inv
+-- the words ws are taken, and at most m may come of the chunks cs
+module _ (whole ws : List ℕ) (m : ℕ) (cs : List (List ℕ)) (inv : ws ++ of_chunks m cs ≡ whole) where
+  none_left : (k : ℕ) (bs : List (List ℕ)) → (0 < k → length bs ≡ 0) → of_chunks k bs ≡ []
+  none_left zero bs h = refl
+  none_left (suc k) [] h = refl
+  none_left (suc k) (b ∷ bs) h = absurd (omega (arith, h (omega arith)))
 
-  module _ (vs : List ℕ) (w : ℕ) (pos : 0 < m) (h : 4 ≤ length bs) (e : w ≡ word_at (get_or bs 0 0) (get_or bs 1 0) (get_or bs 2 0) (get_or bs 3 0)) (p : vs ≡ ws ++ (w ∷ [])) where
-    some_left : m ≡ suc (m - 1)
-    some_left = omega arith
+  pub taken_all : (0 < m → length cs ≡ 0) → ws ≡ whole
+  taken_all h = sym (append-nil ws) ∙ ap (λ r. ws ++ r) (sym (none_left m cs h)) ∙ inv
+
+  module _ (vs : List ℕ) (w n : ℕ) (b : List ℕ) (ds : List (List ℕ)) (more : n + 1 ≡ m) (next : cs ≡ b ∷ ds) (p : vs ≡ ws ++ w ∷ []) (e : w ≡ from_be_bytes w32 b) where
+    split : ws ++ until_end w (of_chunks n ds) ≡ whole
+    split =
+        let s : suc n ≡ m = omega arith in
+        ap (λ w. ws ++ until_end w (of_chunks n ds)) e ∙ ap (λ m. ws ++ of_chunks m (b ∷ ds)) s ∙ ap (λ cs. ws ++ of_chunks m cs) (sym next) ∙ inv
+
+    ended : (t : Bool) → same_kind (kind w) END ≡ t → vs ++ elim t [ true ↦ [] | false ↦ of_chunks n ds ] ≡ whole
+    ended t q =
+        ap (λ vs. vs ++ elim t [ true ↦ [] | false ↦ of_chunks n ds ]) p ∙ append_assoc ws (w ∷ []) _
+        ∙ ap (λ t. ws ++ (w ∷ elim t [ true ↦ [] | false ↦ of_chunks n ds ])) (sym q) ∙ split
 
     pub taken_end : same_kind (kind w) END ≡ true → vs ≡ whole
-    taken_end t = p ∙ ap (λ r. ws ++ r) (sym (ap (λ k. list_up_to k bs) some_left ∙ up_to_end (m - 1) bs w h e t)) ∙ inv
+    taken_end t = sym (append-nil vs) ∙ ended true t
 
-    pub taken_more : (k : ℕ) (cs : List ℕ) → k ≡ m - 1 → cs ≡ drop 4 bs → same_kind (kind w) END ≡ false → vs ++ list_up_to k cs ≡ whole
-    taken_more k cs q r t =
-        ap (λ vs. vs ++ list_up_to k cs) p ∙ append_assoc ws (w ∷ []) (list_up_to k cs)
-        ∙ ap (λ z. ws ++ (w ∷ z)) (ap (λ k. list_up_to k cs) q ∙ ap (list_up_to (m - 1)) r)
-        ∙ ap (λ r. ws ++ r) (sym (ap (λ k. list_up_to k bs) some_left ∙ up_to_more (m - 1) bs w h e t)) ∙ inv
+    pub taken_more : same_kind (kind w) END ≡ false → vs ++ of_chunks n ds ≡ whole
+    taken_more t = ended false t

@@ -1,45 +1,69 @@
 // The words of the input, which are big-endian.
-ghost use Rattle.std.specs.Prelude.{◌≡◌, ◌≤◌, vec_capacity};
+ghost use Rattle.std.specs.Prelude.{◌≡◌, ◌≤◌, length, vec_capacity};
 ghost use Rattle.words.specs.Words.{kind, same_kind};
 ghost use Rattle.words.specs.declared.word.Kind.TheVariants.{End as END};
-ghost use Rattle.marker.specs.Input.{word_at, first_list};
+ghost use Rattle.marker.specs.Input.{first_word, first_list};
+ghost use Rattle.marker.specs.declared.input.TheConstants.{MOST_WORDS};
 
+use std::alloc::{AllocError, Global};
 use words::word::Kind;
 
 // The most words that a list may have.
 pub(crate) const MOST_WORDS: usize = 4096;
 
-// The word of four bytes.
-fn word_of(a: u8, b: u8, c: u8, d: u8) -> u32
-    ensures { result ≡ word_at a b c d }
+// The word that the bytes begin with.
+pub(crate) fn first_word(bytes: &[u8]) -> Option<u32>
+    ensures { result ≡ first_word bytes.now }
 {
-    u32::from_be_bytes([a, b, c, d])
+    let chunk = bytes.first_chunk::<4>()?;
+    Some(u32::from_be_bytes(*chunk))
 }
 
 // Whether a word is END.
 fn is_end(word: u32) -> bool
     ensures { result ≡ same_kind (kind word) END }
 {
-    matches!(Kind::from(word), Kind::End)
+    Kind::from(word) == Kind::End
 }
 
-// The input's first list, in memory that is reserved: up to its END, the input's end or 4,096 words.
-pub(crate) fn take_list(input: &[u8], words: &mut Vec<u32>)
-    requires { 4096 ≤ vec_capacity words.old }
-    ensures items { words.new.items ≡ first_list input.now }
-    ensures capacity { 4096 ≤ vec_capacity words.new }
-{
-    words.clear();
-    let mut rest = input;
-    while words.len() < MOST_WORDS {
-        let [a, b, c, d, tail @ ..] = rest else {
-            return;
-        };
-        let word = word_of(*a, *b, *c, *d);
-        words.push_reserved(word);
-        if is_end(word) {
-            return;
+// The words of one list, in memory that is reserved.
+#[derive(Drop)]
+pub(crate) struct WordList {
+    words: Vec<u32>,
+    ghost room: { MOST_WORDS ≤ vec_capacity words },
+}
+
+impl WordList {
+    pub(crate) fn reserve(heap: Global) -> Result<WordList, AllocError> {
+        Ok(WordList {
+            words: Vec::with_capacity(heap, MOST_WORDS)?,
+        })
+    }
+
+    // Takes the input's first list: up to its END, the input's end or 4,096 words.
+    pub(crate) fn take(&mut self, input: &[u8])
+        ensures { self.new.words.items ≡ first_list input.now }
+    {
+        self.words.clear();
+        let (chunks, _) = input.as_chunks::<4>();
+        for chunk in chunks.iter().take(MOST_WORDS) {
+            let word = u32::from_be_bytes(*chunk);
+            self.words.push_reserved(word);
+            if is_end(word) {
+                return;
+            }
         }
-        rest = tail;
+    }
+
+    pub(crate) fn as_slice(&self) -> &[u32]
+        ensures { result.now ≡ self.now.words.items }
+    {
+        &self.words
+    }
+
+    pub(crate) fn len(&self) -> usize
+        ensures { result ≡ length self.now.words.items }
+    {
+        self.words.len()
     }
 }

@@ -3,3 +3,5 @@
 
 mod input;
 pub mod report;
+mod stream;
+mod text;

@@ -1,13 +1,20 @@
 // The marker: memory for a sheet and its words, and the lines that are printed.
-ghost use Rattle.std.specs.Prelude.{◌≡◌, ◌≤◌, IfOk, vec_capacity};
+ghost use Rattle.std.specs.Prelude.{◌≡◌, IfOk, MatchResult};
+ghost use Rattle.words.specs.Words.{accepted, refused};
 ghost use Rattle.line.specs.Written.{Written};
+ghost use Rattle.line.specs.declared.lines.Item.TheVariants.{Sheet as SheetItem};
+ghost use Rattle.sheet.specs.ReadSheet.{read_sheet};
 ghost use Rattle.sheet.specs.View.{view, blank};
 ghost use Rattle.marker.specs.Input.{first_list};
-ghost use Rattle.marker.specs.Report.{numbers_of, sheet_report, HeldAfter};
+ghost use Rattle.marker.specs.Report.{numbers_of, sheet_report, report, HeldAfter};
+ghost use Rattle.marker.specs.Stream.{StepByStep};
+ghost use Rattle.marker.specs.Text.{Printed};
 
-use crate::input::{MOST_WORDS, take_list};
+use crate::input::{MOST_WORDS, WordList};
+use crate::stream::stream;
+use crate::text::append;
 use line::fault::LineFault;
-use line::lines::{Item, SheetNumbers, refusal_line, sheet_line};
+use line::lines::{Item, Line, Refused, SheetNumbers};
 use sheet::room::SheetRoom;
 use sheet::timing::Sheet;
 use std::alloc::{AllocError, Global};
@@ -19,8 +26,7 @@ pub const MOST_BYTES: usize = 4 * MOST_WORDS;
 #[derive(Drop)]
 pub struct Marker {
     room: SheetRoom,
-    words: Vec<u32>,
-    ghost space: { 4096 ≤ vec_capacity words },
+    words: WordList,
 }
 
 // How many there are of each part of a sheet.
@@ -43,8 +49,23 @@ impl Marker {
     {
         Ok(Marker {
             room: SheetRoom::reserve(heap)?,
-            words: Vec::with_capacity(heap, MOST_WORDS)?,
+            words: WordList::reserve(heap)?,
         })
+    }
+
+    // Reads the sheet that the input begins with, and answers its line, or that of its refusal.
+    fn read(&mut self, input: &[u8]) -> Result<SheetNumbers, Refused>
+        ensures list { self.new.words.words.items ≡ first_list input.now }
+        ensures answer { MatchResult result
+            (λ n. (read_sheet (first_list input.now) ≡ accepted (view self.new.room.sheet)) × (n ≡ numbers_of (view self.new.room.sheet)))
+            (λ r. (read_sheet (first_list input.now) ≡ refused r.refusal) × (r.item ≡ SheetItem)) }
+        ensures held { HeldAfter (first_list input.now) self.old.room.sheet self.new.room.sheet }
+    {
+        self.words.take(input);
+        match self.room.read(self.words.as_slice()) {
+            Ok(()) => Ok(numbers(self.room.sheet())),
+            Err(fault) => Err(Refused::new(Item::Sheet, &fault)),
+        }
     }
 
     // Reads the sheet that the input begins with, and writes its line, or that of its refusal, at a place of the output.
@@ -52,16 +73,85 @@ impl Marker {
         ensures written { Written out.old at (sheet_report input.now) result out.new }
         ensures held { HeldAfter (first_list input.now) self.old.room.sheet self.new.room.sheet }
     {
-        take_list(input, &mut self.words);
-        match self.room.read(&self.words) {
-            Ok(()) => sheet_line(out, at, &numbers(self.room.sheet())),
-            Err(fault) => refusal_line(out, at, Item::Sheet, &fault),
+        match self.read(input) {
+            Ok(numbers) => numbers.write(out, at),
+            Err(refused) => refused.write(out, at),
+        }
+    }
+
+    // Appends the lines that are printed for the input.
+    pub fn mark(&mut self, input: &[u8], text: &mut Vec<u8>) -> Result<(), AllocError>
+        ensures printed { Printed text.old.items (report input.now) result text.new.items }
+        ensures held { HeldAfter (first_list input.now) self.old.room.sheet self.new.room.sheet }
+        ensures laws { StepByStep }
+    {
+        match self.read(input) {
+            Ok(numbers) => {
+                append(text, &numbers)?;
+                let start = self.words.len();
+                stream(self.room.sheet(), &mut self.words, input, start, text)
+            }
+            Err(refused) => append(text, &refused),
         }
     }
 }
 
 #[cfg(test)]
-mod tests {
+mod mark_tests {
+    use super::*;
+    use std::test::Fail;
+
+    // Whether these lines are printed for the input.
+    fn prints(marker: &mut Marker, heap: Global, input: &[u8], lines: &[u8]) -> bool {
+        let mut text = Vec::new(heap);
+        match marker.mark(input, &mut text) {
+            Ok(()) => text.as_slice() == lines,
+            Err(_) => false,
+        }
+    }
+
+    #[test]
+    fn input_that_is_no_sheet(rt: HostRuntime) -> Result<(), Fail> {
+        let heap = rt.alloc();
+        let mut marker = Marker::reserve(heap)?;
+        let ended = b"sheet refused 2 at 0 in words\n";
+        assert!(rt; prints(&mut marker, heap, b"", ended));
+        assert!(rt; prints(&mut marker, heap, b"\x10", ended));
+        assert!(rt; prints(&mut marker, heap, b"\x10\x00\x00", ended));
+        let not_due = b"sheet refused 1 at 0 in words\n";
+        assert!(rt; prints(&mut marker, heap, b"\xff\xff\xff\xff", not_due));
+        let cut = b"sheet refused 2 at 1 in words\n";
+        assert!(rt; prints(&mut marker, heap, b"\x10\x00\x00\x02\x20", cut));
+        let long = vec![in heap; 16u8; 20000]?;
+        assert!(rt; prints(&mut marker, heap, &long, b"sheet refused 4 at 0 in words\n"));
+        Ok(())
+    }
+
+    // The drum task's sheet, then HIGH, END and a broken last word.
+    const INPUT: &[u8] = b"\
+        \x10\x00\x00\x02\x20\x00\x00\x01\x30\x00\x00\x01\x40\x00\x80\x08\
+        \x20\x00\x00\x01\x30\x00\x00\x02\x40\x01\x00\x08\x20\x00\x00\x01\
+        \x30\x10\x00\x01\x40\x00\xc0\x08\x50\x00\x00\x01\x50\x00\x40\x01\
+        \x50\x00\x40\x02\x60\x00\x40\x03\x70\x00\x00\x01\xf0\x00\x00\x0f\
+        \xa0\x00\x00\x00\xf0\x00\x00\x00\x90\x00";
+
+    const LINES: &[u8] = b"\
+        sheet blocks 3 edges 3 lblocks 3 rows 18 columns 15\n\
+        stream refused 1 at 16 in words\n\
+        stream refused 1 at 17 in words\n\
+        stream refused 2 at 18 in words\n";
+
+    #[test]
+    fn after_the_sheet(rt: HostRuntime) -> Result<(), Fail> {
+        let heap = rt.alloc();
+        let mut marker = Marker::reserve(heap)?;
+        assert!(rt; prints(&mut marker, heap, INPUT, LINES));
+        Ok(())
+    }
+}
+
+#[cfg(test)]
+mod sheet_tests {
     use super::*;
     use std::test::Fail;
 

@@ -14,10 +14,7 @@ pub fn drum_room(heap: Global) -> Result<SheetRoom, Fail> {
 
 // The refusal of a list, if it is refused.
 pub fn refusal(room: &mut SheetRoom, list: &[u32]) -> Option<Refusal> {
-    match room.read(list) {
-        Ok(()) => None,
-        Err(fault) => Some(fault.refusal()),
-    }
+    room.read(list).err().map(|fault| fault.refusal())
 }
 
 // Fails unless that is what reading the list answers.

@@ -1,12 +1,13 @@
-use Rattle.std.proofs.Common.{vec_items, arith, length-drop, rules, ltb-false}
-use Rattle.std.proofs.lemmas.List.{take_all}
-use Rattle.judge_cases.specs.Container.{words_of}
-use Rattle.judge_cases.proofs.Spelling.{one_more}
+use Rattle.std.proofs.Common.{Ok, ◌/◌, length, ap, ◌∙◌, rules, w32}
+use Rattle.std.proofs.lemmas.Iterator.{YieldsList-from_slice, YieldsList-from_map, items_from_collect}
+use Rattle.std.specs.Int.{from_be_bytes}
+use Rattle.std.specs.Simd.{first_chunks}
+use Rattle.judge_cases.proofs.Spelling.{spelled}
 use Rattle.judge_cases.proofs.container.words_of.Goals as goal
 
-pub loop-rest-preserved : goal.loop-rest-preserved
-loop-rest-preserved c = (
-  one_more (words_of c.args.bytes.now) (vec_items c.loop-rest.words) (vec_items c.push.new.self) c.loop-rest.rest.now _ c.from_be_bytes.result
-      c.loop-rest.invariant.0 (omega (arith, ltb-false)) c.from_be_bytes.ensures (search rules) (take_all _ _ (simp length-drop (omega arith))),
-  search rules,
-)
+pub returns-clause-items : goal.returns-clause-items
+returns-clause-items c =
+    items_from_collect {E = Unit {0}} (Ok c.in_ok-collect.field-0) c.in_ok-collect.ensures.ran
+    (YieldsList-from_map _ (from_be_bytes w32)
+    (YieldsList-from_slice (first_chunks 4 (length c.args.bytes.now / 4) c.args.bytes.now) (ap (λ i. i.rest.now) c.map.ensures.source ∙ c.iter.ensures.rest ∙ c.as_chunks.ensures.front)) c.map.ensures.closure (λ x r q k. search rules))
+    ∙ spelled c.args.bytes.now

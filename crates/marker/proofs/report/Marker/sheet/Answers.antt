@@ -1,20 +1,10 @@
-use Rattle.std.proofs.Common.{vec_items}
-use Rattle.sheet.specs.Faults.{sheet_refusal}
-use Rattle.marker.proofs.Reporting.{accepted_line, refused_line, accepted_held, refused_held}
+use Rattle.std.proofs.Common.{subst}
+use Rattle.line.specs.Written.{Written}
+use Rattle.marker.specs.Input.{first_list}
+use Rattle.marker.proofs.Reporting.{accepted_line}
 use Rattle.marker.proofs.report.Marker.sheet.Goals as goal
 
-pub returns-in-Ok : goal.returns-in-Ok
-returns-in-Ok c = record {
-  written = accepted_line c.args.input.now c.deref.result.now (vec_items c.take_list.new.words) c.args.out.now c.args.at c.sheet_line.result c.sheet_line.new.out c.deref.ensures.value c.take_list.ensures.items
-      c.read.new.self.sheet c.sheet.result.now c.numbers.result c.in-Ok.ensures.answer c.sheet.ensures c.numbers.ensures c.sheet_line.ensures.written;
-  held = accepted_held c.args.input.now c.deref.result.now (vec_items c.take_list.new.words) c.args.out.now c.args.at c.sheet_line.result c.sheet_line.new.out c.deref.ensures.value c.take_list.ensures.items
-      c.read.new.self.sheet c.args.self.now.room.sheet c.in-Ok.ensures.answer;
-}
-
-pub returns-in-Err : goal.returns-in-Err
-returns-in-Err c = record {
-  written = refused_line c.args.input.now c.deref.result.now (vec_items c.take_list.new.words) c.args.out.now c.args.at c.refusal_line.result c.refusal_line.new.out c.deref.ensures.value c.take_list.ensures.items
-      (sheet_refusal c.in-Err.fault) c.in-Err.ensures.answer.0 c.refusal_line.ensures.written;
-  held = refused_held c.args.input.now c.deref.result.now (vec_items c.take_list.new.words) c.args.out.now c.args.at c.refusal_line.result c.refusal_line.new.out c.deref.ensures.value c.take_list.ensures.items
-      (sheet_refusal c.in-Err.fault) c.read.new.self.sheet c.args.self.now.room.sheet c.in-Err.ensures.answer.0 c.in-Err.ensures.answer.1;
-}
+pub returns-in-Ok-clause-written : goal.returns-in-Ok-clause-written
+returns-in-Ok-clause-written c =
+    subst (λ text. Written c.args.out.now c.args.at text c.write.result c.write.new.out)
+    (accepted_line (first_list c.args.input.now) c.read.new.self.room.sheet c.in-Ok.ensures.answer.0 c.in-Ok.numbers c.in-Ok.ensures.answer.1) c.write.ensures.written

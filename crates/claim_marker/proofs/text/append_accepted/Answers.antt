@@ -1,9 +1,0 @@
-use Rattle.std.proofs.Common.{replicate, vec_items}
-use Rattle.line.specs.Lines.{accepted_text}
-use Rattle.claim_marker.proofs.Appending.{appended}
-use Rattle.claim_marker.proofs.text.append_accepted.Goals as goal
-
-pub returns : goal.returns
-returns c =
-    appended (replicate 256 0) (accepted_text c.args.cycles) c.accepted_line.new.out (vec_items c.args.text.now) (vec_items c.extend_from_slice.new.self) c.in-Ok.end
-    c.extend_from_slice.result c.in-Ok.ensures.written c.extend_from_slice.ensures.items

@@ -1,4 +1,0 @@
-pub mod Input
-pub mod Text
-pub mod Stream
-pub mod Report
