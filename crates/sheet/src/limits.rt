@@ -1,4 +1,4 @@
-// How many of each item a sheet may have.
+// How many of each item a sheet may have, and how many conflict edges.
 pub(crate) const MOST_SETS: usize = 64;
 
 pub(crate) const MOST_BLOCKS: usize = 128;
@@ -15,3 +15,5 @@ pub(crate) const MOST_LOOPS: usize = 32;
 pub(crate) const MOST_BACKS: usize = 64;
 
 pub(crate) const MOST_FACTS: usize = 32;
+
+pub(crate) const MOST_CONFLICTS: usize = 4096;

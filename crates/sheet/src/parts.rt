@@ -1,5 +1,6 @@
 // The items of a timing sheet. Each sort of item is numbered from 0 as it comes.
 use crate::bounded::BoundedVec;
+use crate::limits::MOST_CONFLICTS;
 
 // A basic block: the number of its first l-block, and how many it has. They follow one another.
 #[derive(Clone, Copy, PartialEq, Eq, Debug)]
@@ -64,5 +65,5 @@ pub struct Conflict {
     pub to: Node,
 }
 
-// The conflict edges of a sheet, of which it has at most so many.
-pub(crate) type ConflictList = BoundedVec<Conflict, 4096>;
+// The conflict edges of a sheet.
+pub(crate) type ConflictList = BoundedVec<Conflict, MOST_CONFLICTS>;

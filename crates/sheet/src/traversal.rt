@@ -10,6 +10,7 @@ ghost use Rattle.sheet.specs.Reads.{Found};
 
 use crate::bounded::BoundedVec;
 use crate::fault::SheetFault;
+use crate::limits::{MOST_BLOCKS, MOST_EDGES};
 use crate::parts::{Block, ConflictList, Edge, LBlock};
 use crate::traversal::graph::{Graph, link};
 use crate::traversal::reach::Reach;
@@ -18,8 +19,8 @@ use std::alloc::{AllocError, Global};
 // The memory of a traversal, for a sheet of any size.
 #[derive(Drop)]
 pub struct Traversal {
-    latest: BoundedVec<Option<usize>, 128>,
-    before: BoundedVec<Option<usize>, 512>,
+    latest: BoundedVec<Option<usize>, MOST_BLOCKS>,
+    before: BoundedVec<Option<usize>, MOST_EDGES>,
     reach: Reach,
 }
 

@@ -4,6 +4,7 @@ ghost use Rattle.std.proofs.Props.{props};
 ghost use Rattle.sheet.specs.Graph.{Linked, Ready};
 
 use crate::bounded::BoundedVec;
+use crate::limits::{MOST_BLOCKS, MOST_EDGES};
 use crate::parts::{Block, Edge, LBlock};
 
 // The blocks, l-blocks and edges of a sheet, with the edges from each block linked: `latest` has each block's last edge, and `before` the
@@ -23,8 +24,8 @@ pub struct Graph<'a> {
 pub(crate) fn link(
     blocks: usize,
     edges: &[Edge],
-    latest: &mut BoundedVec<Option<usize>, 128>,
-    before: &mut BoundedVec<Option<usize>, 512>,
+    latest: &mut BoundedVec<Option<usize>, MOST_BLOCKS>,
+    before: &mut BoundedVec<Option<usize>, MOST_EDGES>,
 )
     requires from { AllByRecursion (λ e. e.from < blocks) edges.now }
     requires blocks { blocks ≤ 128 }

@@ -6,6 +6,7 @@ ghost use Rattle.sheet.specs.Graph.{first_of};
 ghost use Rattle.sheet.specs.Traversal.{sheet_of, Going, On, saw, Source, Reached};
 
 use crate::bounded::BoundedVec;
+use crate::limits::MOST_LBLOCKS;
 use crate::parts::Node;
 use crate::traversal::graph::Graph;
 use std::alloc::{AllocError, Global};
@@ -16,9 +17,9 @@ use std::alloc::{AllocError, Global};
 pub struct Reach {
     pub set: usize,
     pub from: Node,
-    pub seen: BoundedVec<bool, 512>,
+    pub seen: BoundedVec<bool, MOST_LBLOCKS>,
     pub ended: bool,
-    pub queue: BoundedVec<usize, 512>,
+    pub queue: BoundedVec<usize, MOST_LBLOCKS>,
 }
 
 impl Reach {
