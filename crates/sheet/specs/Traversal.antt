@@ -53,10 +53,10 @@ pub record Reached (S : Sheet) (s : ℕ) (u : Node) (r : Reach) : Type 0 where
   pub found : (v : Node) → saw r v ≡ conflicting S s u v
 
 -- a node that has a flag
-abbrev pub Flagged : Reach → Node → Type 0
-Flagged r START = Unit {0}
-Flagged r (at k) = k < length r.seen.list.items
-Flagged r END = Unit {0}
+abbrev pub HasFlag : Reach → Node → Type 0
+HasFlag r START = Unit {0}
+HasFlag r (at k) = k < length r.seen.list.items
+HasFlag r END = Unit {0}
 
 -- where a traversal can start
 abbrev pub Source : Sheet → Node → Type 0

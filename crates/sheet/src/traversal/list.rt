@@ -3,7 +3,7 @@ ghost use Rattle.std.specs.Prelude.{◌≡◌, ◌<◌, [], ◌∷◌, length, n
 ghost use Rattle.words.specs.Lists.{any};
 ghost use Rattle.sheet.specs.ConflictList.{conflicts_from, conflicts_of};
 ghost use Rattle.sheet.specs.Reads.{Found};
-ghost use Rattle.sheet.specs.Traversal.{sheet_of, Source, Reached, Flagged, Added, saw, seen_edge};
+ghost use Rattle.sheet.specs.Traversal.{sheet_of, Source, Reached, HasFlag, Added, saw, seen_edge};
 
 use crate::fault::SheetFault;
 use crate::parts::{Conflict, ConflictList, LBlock, Node};
@@ -13,7 +13,7 @@ use crate::traversal::reach::Reach;
 impl Reach {
     // Whether the traversal saw a node.
     fn saw(&self, v: Node) -> bool
-        requires { Flagged self.now v }
+        requires { HasFlag self.now v }
         ensures { result ≡ saw self.now v }
     {
         match v {
@@ -25,7 +25,7 @@ impl Reach {
 
     // Lists the conflict edge to a node, if the traversal saw it.
     fn list_to(&self, to: Node, out: &mut ConflictList) -> Result<(), SheetFault>
-        requires { Flagged self.now to }
+        requires { HasFlag self.now to }
         ensures { Added self.now.set out.old.list.items (seen_edge self.now to) result out.new.list.items }
     {
         if self.saw(to) {
