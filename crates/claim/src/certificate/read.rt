@@ -99,6 +99,7 @@ pub(crate) fn read(words: &[u32], rows: usize) -> Result<Certificate<'_>, ClaimF
     let mut reader = Reader::new(words);
     let scale = read_scale(&mut reader)?;
     let claim = read_claim(&mut reader)?;
+    // Kept: after `try_for_each` nothing is known of the reader that its closure moves on.
     for _row in 0..rows {
         read_pair(&mut reader)?;
     }

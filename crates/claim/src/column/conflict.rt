@@ -12,6 +12,14 @@ use crate::scaled::Scaled;
 use crate::tableau::Tableau;
 use sheet::parts::{LBlock, Node};
 
+// A tableau with the number of each used set's row in its family.
+#[derive(Drop)]
+pub struct SetTable<'a> {
+    tableau: Tableau<'a>,
+    ranks: [usize; 64],
+    ghost ranked: { RankTable (sheet_in tableau).lblocks ranks },
+}
+
 // Which sets an l-block has.
 fn used_sets(lblocks: &[LBlock]) -> [bool; 64]
     requires { SetsFit lblocks.now }
@@ -55,22 +63,6 @@ impl Tableau<'_> {
         }
     }
 
-    // What the set and departure rows add, by the set and the source.
-    fn source_share(&self, ranks: &[usize; 64], set: usize, from: Node) -> Scaled
-        requires ranks { RankTable (sheet_in self.now).lblocks ranks.now }
-        requires set { set < 64 }
-        requires used { rank (sheet_in self.now) set < length (weights_in self.now).sets }
-        requires source { NodeIn (length (sheet_in self.now).lblocks) from }
-        ensures share { result.0 ≡ share_of_source (sheet_in self.now) (weights_in self.now) set from }
-        ensures near { Near (2 ^ 40) result.0 }
-    {
-        match from {
-            Node::Start => at(self.rows.sets, ranks[set]),
-            Node::At(u) => -at(self.rows.departures, u),
-            Node::End => Scaled::ZERO,
-        }
-    }
-
     // What the arrival and miss rows add, by both ends.
     fn target_share(&self, from: Node, to: Node) -> Scaled
         requires source { NodeIn (length (sheet_in self.now).lblocks) from }
@@ -88,24 +80,53 @@ impl Tableau<'_> {
             arrival
         }
     }
+}
 
-    // Whether the column is not below nothing.
-    fn conflict_covered(&self, ranks: &[usize; 64], p: usize) -> bool
-        requires ranks { RankTable (sheet_in self.now).lblocks ranks.now }
-        requires inside { p < length (conflict_list (sheet_in self.now)) }
-        ensures { (x : AConflict) → result ≡ passes self.now (P (slice_index_or (conflict_list (sheet_in self.now)) p x)) }
+impl<'a> SetTable<'a> {
+    // The used sets of a tableau's sheet.
+    fn of(tableau: &Tableau<'a>) -> SetTable<'a>
+        ensures { result.tableau ≡ tableau.now }
     {
-        let c = self.sheet.conflicts()[p];
-        let total = self.source_share(ranks, c.set, c.from) + self.target_share(c.from, c.to);
-        total.covers(Scaled::ZERO)
+        SetTable {
+            tableau: *tableau,
+            ranks: set_ranks(tableau.sheet.lblocks()),
+        }
     }
 
+    // What the set and departure rows add, by the set and the source.
+    fn source_share(&self, set: usize, from: Node) -> Scaled
+        requires set { set < 64 }
+        requires used { rank (sheet_in self.now.tableau) set < length (weights_in self.now.tableau).sets }
+        requires source { NodeIn (length (sheet_in self.now.tableau).lblocks) from }
+        ensures share { result.0 ≡ share_of_source (sheet_in self.now.tableau) (weights_in self.now.tableau) set from }
+        ensures near { Near (2 ^ 40) result.0 }
+    {
+        let rows = self.tableau.rows;
+        match from {
+            Node::Start => at(rows.sets, self.ranks[set]),
+            Node::At(u) => -at(rows.departures, u),
+            Node::End => Scaled::ZERO,
+        }
+    }
+
+    // Whether the column is not below nothing.
+    fn conflict_covered(&self, p: usize) -> bool
+        requires { p < length (conflict_list (sheet_in self.now.tableau)) }
+        ensures { (x : AConflict) → result ≡ passes self.now.tableau (P (slice_index_or (conflict_list (sheet_in self.now.tableau)) p x)) }
+    {
+        let c = self.tableau.sheet.conflicts()[p];
+        let total = self.source_share(c.set, c.from) + self.tableau.target_share(c.from, c.to);
+        total.covers(Scaled::ZERO)
+    }
+}
+
+impl Tableau<'_> {
     // The first conflict edge whose column is below nothing.
     pub(crate) fn low_conflict(&self) -> Option<usize>
         ensures { FirstLow (passes self.now) (map P (conflict_list (sheet_in self.now))) result }
     {
-        let ranks = set_ranks(self.sheet.lblocks());
+        let sets = SetTable::of(self);
         let conflicts = self.sheet.conflicts().len();
-        (0..conflicts).find(|&p| !self.conflict_covered(&ranks, p))
+        (0..conflicts).find(|&p| !sets.conflict_covered(p))
     }
 }

@@ -2,11 +2,22 @@
 ghost use Rattle.std.specs.Prelude.{◌≡◌, ◌*◌, ◌^◌, ◌≤◌, length};
 ghost use Rattle.claim.specs.Parts.{multipliers};
 ghost use Rattle.claim.specs.Shares.{Near};
+ghost use Rattle.claim.specs.Tableau.{sheet_in, weights_in};
 ghost use Rattle.claim.specs.Tables.{FactFits, FactsFit, FactAdded, FactTable, AllNear};
 
 use crate::rows::value::multiplier;
 use crate::scaled::Scaled;
+use crate::tableau::Tableau;
 use sheet::parts::Fact;
+
+// A tableau with what the fact rows add to each block's column.
+#[derive(Drop)]
+pub struct FactShares<'a> {
+    pub(crate) tableau: Tableau<'a>,
+    pub(crate) shares: [Scaled; 128],
+    ghost shared: { FactTable (weights_in tableau).facts (sheet_in tableau).facts shares },
+    ghost near: { AllNear (2 ^ 60) shares },
+}
 
 // The row of one fact: its multiplier once for block i, and minus k times for block j.
 fn add_fact(shares: &mut [Scaled; 128], fact: &Fact, multiplier: Scaled)
@@ -20,7 +31,7 @@ fn add_fact(shares: &mut [Scaled; 128], fact: &Fact, multiplier: Scaled)
 }
 
 // The shares of all blocks.
-pub(crate) fn fact_shares(facts: &[Fact], pairs: &[[u32; 2]]) -> [Scaled; 128]
+fn fact_shares(facts: &[Fact], pairs: &[[u32; 2]]) -> [Scaled; 128]
     requires fits { FactsFit facts.now }
     requires few { length facts.now ≤ 32 }
     requires paired { length pairs.now ≡ length facts.now }
@@ -32,4 +43,16 @@ pub(crate) fn fact_shares(facts: &[Fact], pairs: &[[u32; 2]]) -> [Scaled; 128]
         add_fact(&mut shares, fact, multiplier(pair));
     }
     shares
+}
+
+impl<'a> FactShares<'a> {
+    // The facts of a tableau's sheet.
+    pub(crate) fn of(tableau: &Tableau<'a>) -> FactShares<'a>
+        ensures { result.tableau ≡ tableau.now }
+    {
+        FactShares {
+            tableau: *tableau,
+            shares: fact_shares(tableau.sheet.facts(), tableau.rows.facts),
+        }
+    }
 }
