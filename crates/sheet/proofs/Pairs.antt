@@ -1,5 +1,5 @@
 -- For code: the two words of an l-block, and how far the words lead. Assumes nothing.
-use Rattle.std.proofs.Common.{◌≡◌, ℕ, ◌+◌, ◌-◌, ◌<◌, Bool, true, false, cond, ltb, List, [], ◌∷◌, ◌++◌, length, get_or, drop, Some, Ok, Result, sym, refl, ap, ap₂, ◌∙◌, subst, ⊎_elim, arith}
+use Rattle.std.proofs.Common.{◌≡◌, ℕ, ◌+◌, ◌-◌, ◌<◌, Bool, true, false, cond, ltb, List, [], ◌∷◌, ◌++◌, length, get_or, drop, Some, Ok, sym, refl, ap, ap₂, ◌∙◌, subst, ⊎_elim, arith}
 use mathlib.Core.Option.{Option, none, some}
 use Rattle.std.proofs.lemmas.Bool.{ltb-true, ltb-false}
 use Rattle.words.specs.Words.{kind, payload, one_of, same_kind, set_field, tag_field, Check, demand, first_failing, refusal, not_due}
@@ -12,7 +12,6 @@ use Rattle.sheet.specs.ReadSheet.{at_lblock, at_cost, at_blocks, State, stands, 
 use Rattle.sheet.specs.BlockTable.{Laid}
 use Rattle.sheet.specs.Drafts.{Items, sheet_of, add_lblock}
 use Rattle.sheet.specs.Sections.{state_of, Ready, Goes, stays, takes, section_past_lblock, Stepped}
-use Rattle.words.specs.declared.refusal.WordFault.{WordFault}
 use Rattle.sheet.specs.declared.draft.placed.PlacedWord.{PlacedWord}
 use Rattle.sheet.specs.Placed.{IsAt, TakesPlaced}
 use Rattle.sheet.specs.Tried.{lblock_checks, cost_checks, pair_lblock}
@@ -45,10 +44,10 @@ abbrev cost_demands : ℕ → ℕ → List Check
 cost_demands w i = cost_checks (kind w) i
 
 module _ (I : Items) (n : ℕ) where
-  pub first_is : (w i : ℕ) (rest : List ℕ) → first_failing (demands (state_of (LBlocks n) I) w i rest) ≡ first_failing (lblock_demands I w i)
+  first_is : (w i : ℕ) (rest : List ℕ) → first_failing (demands (state_of (LBlocks n) I) w i rest) ≡ first_failing (lblock_demands I w i)
   first_is w i rest = one_due (kind w) LBLOCK i (λ k. checks (sheet_of I) none k (payload w) i rest)
 
-  pub second_is : (s t w i : ℕ) (rest : List ℕ) → first_failing (demands (stands (at_cost n s t) (sheet_of I)) w i rest) ≡ first_failing (cost_demands w i)
+  second_is : (s t w i : ℕ) (rest : List ℕ) → first_failing (demands (stands (at_cost n s t) (sheet_of I)) w i rest) ≡ first_failing (cost_demands w i)
   second_is s t w i rest = one_due (kind w) COST i (λ k. checks (sheet_of I) none k (payload w) i rest)
 
   -- the state between the two words
@@ -105,23 +104,17 @@ pub placed : (P : Kind → ℕ → ℕ → Type 0) (ws : List ℕ) (i : ℕ) (w 
 placed P ws i w e f = subst (λ a. P (kind (get_or ws i 0)) (payload (get_or ws i 0)) a) e.2 (subst (λ p. P (kind (get_or ws i 0)) p w.at) e.1 (subst (λ k. P k w.payload.0 w.at) e.0 f))
 
 -- the code's two words
-module _ (I : Items) (n : ℕ) (ws : List ℕ) (i : ℕ) (v : PlacedWord) (j : ℕ) (t : TakesPlaced ws i (Ok v) j) where
-  module _ (f : first_failing (lblock_checks I v.kind v.payload.0 v.at) ≡ none) (vs : List ℕ) (same : vs ≡ ws) where
-    passed : first_failing (lblock_demands I (get_or ws i 0) i) ≡ none
-    passed = placed (λ k p a. first_failing (lblock_checks I k p a) ≡ none) ws i v t.1 f
-
-    later : (r : Result PlacedWord WordFault) (k : ℕ) → TakesPlaced vs j r k → TakesPlaced ws (i + 1) r k
-    later r k u = subst (λ j. TakesPlaced ws j r k) t.2 (subst (λ vs. TakesPlaced vs j r k) same u)
-
-    module _ (w : PlacedWord) (k : ℕ) (u : TakesPlaced vs j (Ok w) k) where
-      pub pair_went : (J : Items) (s : Section) → Ready (LBlocks n) I → first_failing (cost_checks w.kind w.at) ≡ none → J ≡ pair_lblock I v.payload.0 w.payload.0 → s ≡ section_past_lblock n → Stepped ws (LBlocks n) I i (Ok (Some s)) J k
-      pair_went J s r g e q =
-          let x = later (Ok w) k u in
-          let fits : J ≡ pair_lblock I (payload (get_or ws i 0)) (payload (get_or ws (i + 1) 0)) = e ∙ ap₂ (pair_lblock I) t.1.1 x.1.1 in
-          subst (λ s. Stepped ws (LBlocks n) I i (Ok (Some s)) J k) (sym q) (
-            subst (Goes ws (state_of (LBlocks n) I) i (state_of (section_past_lblock n) J)) (sym x.2)
-                (two_words I n ws i J x.0 passed (placed (λ k p a. first_failing (cost_checks k a) ≡ none) ws (i + 1) w x.1 g) fits),
-            ready_past I n J (set_field v.payload.0) (tag_field v.payload.0) w.payload.0 r e,
-            omega (arith, x.2),
-            omega (arith, x.0, x.2),
-          )
+pub pair_went : (I J : Items) (n : ℕ) (ws vs : List ℕ) (i j k : ℕ) (v w : PlacedWord) (s : Section) → Ready (LBlocks n) I → vs ≡ ws
+    → TakesPlaced ws i (Ok v) j → first_failing (lblock_checks I v.kind v.payload.0 v.at) ≡ none
+    → TakesPlaced vs j (Ok w) k → first_failing (cost_checks w.kind w.at) ≡ none
+    → J ≡ pair_lblock I v.payload.0 w.payload.0 → s ≡ section_past_lblock n → Stepped ws (LBlocks n) I i (Ok (Some s)) J k
+pair_went I J n ws vs i j k v w s r same t f u g e q =
+    let x : TakesPlaced ws (i + 1) (Ok w) k = subst (λ j. TakesPlaced ws j (Ok w) k) t.2 (subst (λ vs. TakesPlaced vs j (Ok w) k) same u) in
+    let fits : J ≡ pair_lblock I (payload (get_or ws i 0)) (payload (get_or ws (i + 1) 0)) = e ∙ ap₂ (pair_lblock I) t.1.1 x.1.1 in
+    subst (λ s. Stepped ws (LBlocks n) I i (Ok (Some s)) J k) (sym q) (
+      subst (Goes ws (state_of (LBlocks n) I) i (state_of (section_past_lblock n) J)) (sym x.2)
+          (two_words I n ws i J x.0 (placed (λ k p a. first_failing (lblock_checks I k p a) ≡ none) ws i v t.1 f) (placed (λ k p a. first_failing (cost_checks k a) ≡ none) ws (i + 1) w x.1 g) fits),
+      ready_past I n J (set_field v.payload.0) (tag_field v.payload.0) w.payload.0 r e,
+      omega (arith, x.2),
+      omega (arith, x.0, x.2),
+    )

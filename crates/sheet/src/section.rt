@@ -5,8 +5,7 @@ ghost use Rattle.sheet.specs.Sections.{due_in, section_past_lblock};
 
 use words::word::Kind;
 
-// Before HEAD; after it; in a block that lacks so many l-blocks; after a whole block; after an edge; in a loop, with its number and its
-// header; after a fact.
+// Before HEAD; after it; in a block that lacks so many l-blocks; after a whole block; after an edge; in a loop; after a fact.
 #[derive(Clone, Copy, PartialEq, Eq, Debug)]
 pub enum Section {
     Head,
@@ -14,7 +13,7 @@ pub enum Section {
     LBlocks(usize),
     Blocks,
     Edges,
-    Loop(usize, usize),
+    Loop { number: usize, header: usize },
     Facts,
 }
 
@@ -32,7 +31,10 @@ impl Section {
                 Kind::Block | Kind::Edge | Kind::Loop | Kind::Fact | Kind::End
             ),
             Section::Edges => matches!(kind, Kind::Edge | Kind::Loop | Kind::Fact | Kind::End),
-            Section::Loop(_, _) => matches!(kind, Kind::Back | Kind::Loop | Kind::Fact | Kind::End),
+            Section::Loop { .. } => matches!(
+                kind,
+                Kind::Back | Kind::Loop | Kind::Fact | Kind::End
+            ),
             Section::Facts => matches!(kind, Kind::Fact | Kind::End),
         }
     }

@@ -84,7 +84,7 @@ impl Draft {
         demand(!self.has_header(header), SheetFault::WrongLoop(word.at))?;
         let bound = word.payload.lower();
         self.loops.push(Loop { header, bound });
-        Ok(Some(Section::Loop(number, header)))
+        Ok(Some(Section::Loop { number, header }))
     }
 
     pub(crate) fn back_word(
@@ -94,7 +94,7 @@ impl Draft {
     ) -> Result<Option<Section>, SheetFault>
         ensures { Added (back_checks section (items_of self.old) word.payload.0 word.at) (add_back (items_of self.old) (number_in section) word.payload.0) (Some section) result (items_of self.new) }
     {
-        let Section::Loop(owner, header) = section else {
+        let Section::Loop { number, header } = section else {
             return Err(WordFault::NotDue(word.at).into());
         };
         let source = word.payload.0 as usize;
@@ -104,10 +104,13 @@ impl Draft {
             SheetFault::WrongLoop(word.at),
         )?;
         demand(
-            !self.has_back(owner, source),
+            !self.has_back(number, source),
             SheetFault::WrongLoop(word.at),
         )?;
-        self.backs.push(BackEdge { owner, source });
+        self.backs.push(BackEdge {
+            owner: number,
+            source,
+        });
         Ok(Some(section))
     }
 

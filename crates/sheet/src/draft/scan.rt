@@ -54,7 +54,7 @@ impl Draft {
         ensures { result ≡ whole_in section (items_of self.now) }
     {
         match section {
-            Section::Loop(number, header) => {
+            Section::Loop { number, header } => {
                 self.is_closed(number) && self.has_entry(number, header)
             }
             _ => true,

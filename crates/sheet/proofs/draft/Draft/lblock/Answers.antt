@@ -6,4 +6,4 @@ pub returns-clause-stepped : goal.returns-clause-stepped
 returns-clause-stepped c =
     let f = c.in_ok-first.ensures in
     let g = c.in_ok-cost_word.ensures in
-    pair_went _ _ _ _ _ _ f.takes c.in_ok-lblock_word.ensures _ (ap (λ r. r.now) f.same) _ _ c.in_ok-second.ensures.takes _ _ c.requires g.0 g.2 c.past_lblock.ensures
+    pair_went _ _ _ _ _ _ _ _ _ _ _ c.requires (ap (λ r. r.now) f.same) f.takes c.in_ok-lblock_word.ensures c.in_ok-second.ensures.takes g.0 g.2 c.past_lblock.ensures
