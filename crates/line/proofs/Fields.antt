@@ -5,7 +5,7 @@ use Rattle.words.specs.Lists.{joined}
 use Rattle.line.specs.declared.field.Word.{Word}
 use Rattle.line.specs.declared.field.Field.{Field}
 use Rattle.line.specs.declared.field.Field.TheVariants.{Number}
-use Rattle.line.specs.Text.{spaced, line_of}
+use Rattle.line.specs.Text.{line_of}
 use Rattle.line.specs.Fields.{word_text, field_text}
 
 -- a space and its text for each field
@@ -28,9 +28,6 @@ after_le fs i =
     let s = ap length (after_append (take i fs) (drop i fs)) in
     let l = length-append (after (take i fs)) (after (drop i fs)) in
     omega arith
-
-pub line_some : (ts : List (List ℕ)) → 0 < length (line_of ts)
-line_some ts = let l = length-append (spaced ts) (10 ∷ []) in omega arith
 
 pub length-line : (w : Word) (fs : List Field) → length (line_of (word_text w ∷ map field_text fs)) ≡ length (word_text w) + length (after fs) + 1
 length-line w fs = simp length-append

@@ -1,7 +1,6 @@
--- Text put in place of other bytes: one text after another, one byte, the end of a list. Assumes nothing.
-use Rattle.std.proofs.Common.{◌≡◌, ℕ, ◌+◌, ◌-◌, ◌<◌, ◌≤◌, List, [], ◌∷◌, ◌++◌, length, take, drop, set, sym, refl, ap, ◌∙◌, append_assoc, add_assoc, add-one, arith, length-append, length-drop}
-use borrow.Rule.Slice.PartMut.{put_mid}
-use Rattle.std.proofs.lemmas.List.{set_split, take_all, drop_all, append-nil, drop-drop, take_at, drop_at, length-take-le}
+-- Text put in place of other bytes: one text after another, one byte. Assumes nothing.
+use Rattle.std.proofs.Common.{◌≡◌, ℕ, ◌+◌, ◌<◌, ◌≤◌, List, [], ◌∷◌, ◌++◌, length, take, drop, set, sym, refl, ap, ◌∙◌, append_assoc, add_assoc, add-one, length-append}
+use Rattle.std.proofs.lemmas.List.{set_split, drop-drop, take_at, drop_at, length-take-le}
 use Rattle.line.specs.Text.{over, over_at}
 
 -- one text after another
@@ -21,15 +20,6 @@ over_more xs a b = then_at a (drop (length a) xs) b (length a) refl ∙ simp (ap
 -- one byte
 pub set_is : (xs : List ℕ) (at b : ℕ) → at < length xs → set xs at b ≡ over_at at (b ∷ []) xs
 set_is xs at b h = rw add-one (set_split xs at b h)
-
--- the end of a list
-pub at_end : (xs ys text : List ℕ) (at : ℕ) → at ≤ length xs → ys ≡ over text (take (length xs - at) (drop at xs))
-    → put_mid at (length xs - at) xs ys ≡ over_at at text xs
-at_end xs ys text at h e =
-    let whole : length (drop at xs) ≤ length xs - at = simp length-drop (omega arith) in
-    let t : take (length xs - at) (drop at xs) ≡ drop at xs = take_all _ _ whole in
-    let n : drop (length xs - at) (drop at xs) ≡ [] = drop_all _ _ whole in
-    simp (n, append-nil, e, t, drop-drop)
 
 -- the last byte, after a first text and those that follow it
 pub ended : (xs ys zs first rest : List ℕ) (n at b : ℕ) → ys ≡ over first xs → n ≡ length first → zs ≡ over_at n rest ys → at ≡ n + length rest

@@ -1,5 +1,5 @@
 use Rattle.std.proofs.Common.{sym, arith}
-use Rattle.line.proofs.Digits.{one_digit, first, more, longer, at_most_20}
+use Rattle.line.proofs.Digits.{one_digit, first, more, longer}
 use Rattle.line.proofs.decimal.+put_decimal.Goals as goal
 
 pub bounds-out-0 : goal.bounds-out-0
@@ -10,12 +10,6 @@ put_decimal-count-requires t c = let l = longer c.args.n (omega arith) (omega ar
 
 pub bounds-out-count : goal.bounds-out-count
 bounds-out-count t c = let l = longer c.args.n (omega arith) (omega arith) in omega arith
-
-pub overflow_add-result : goal.overflow_add-result
-overflow_add-result t c =
-    let l = longer c.args.n (omega arith) (omega arith) in
-    let m = at_most_20 c.args.n (omega arith) in
-    omega arith
 
 pub returns-then-n-lt10 : goal.returns-then-n-lt10
 returns-then-n-lt10 t c =

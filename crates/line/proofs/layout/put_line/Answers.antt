@@ -33,13 +33,6 @@ loop-field-preserved c =
           ∙ ap (λ t. over_at at t xs) (sym (after_more fs i no_field (omega arith))),
     )
 
-pub bounds-out-at : goal.bounds-out-at
-bounds-out-at c =
-    let t = ap length c.text.ensures.text in
-    let a = ap length (after_all c.args.fields.now c.loop-field.field-index (omega arith)) in
-    let l = length-line c.args.head c.args.fields.now in
-    omega arith
-
 pub returns : goal.returns
 returns c =
     let fs = c.args.fields.now in
