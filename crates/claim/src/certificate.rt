@@ -1,6 +1,4 @@
 // A certificate: a claim with a multiplier for each row, in the caller's words.
-ghost use Rattle.std.specs.Prelude.{◌≡◌, ◌+◌, ◌*◌, ◌≤◌, length, drop};
-ghost use Rattle.std.specs.Simd.{first_chunks};
 
 use crate::amount::Cycles;
 use crate::scaled::Denominator;

@@ -1,5 +1,5 @@
 // Reading a certificate: CLAIM, the claim W, a pair for each row, END.
-ghost use Rattle.std.specs.Prelude.{◌≡◌, ◌+◌, ◌*◌, ◌≤◌, Bool, length, drop};
+ghost use Rattle.std.specs.Prelude.{◌≡◌, ◌+◌, ◌*◌, ◌≤◌, length, drop};
 ghost use Rattle.std.specs.Simd.{first_chunks};
 ghost use Rattle.words.specs.Words.{fields, top_field};
 ghost use Rattle.claim.specs.Parts.{Reads, HighRead, ScaleRead, ClaimRead, PairRead, EndRead, CertificateRead};

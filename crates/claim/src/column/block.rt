@@ -1,5 +1,5 @@
 // The column of a block: how often it runs.
-ghost use Rattle.std.specs.Prelude.{◌≡◌, ◌+◌, ◌*◌, ◌^◌, ◌<◌, ◌≤◌, map, length, sum_by};
+ghost use Rattle.std.specs.Prelude.{◌≡◌, ◌+◌, ◌^◌, ◌<◌, ◌≤◌, map, length, sum_by};
 ghost use Rattle.words.specs.Lists.{below};
 ghost use Rattle.sheet.specs.Rows.{N};
 ghost use Rattle.claim.specs.Shares.{FirstLow, block_sum, fact_share};

@@ -16,7 +16,7 @@ pub struct LoopTable<'a> {
     pub(crate) tableau: Tableau<'a>,
     headers: [Option<usize>; 128],
     sources: [[bool; 128]; 32],
-    ghost headed: { HeaderTable (items_in tableau.sheet.now).loops (length (items_in tableau.sheet.now).loops) headers } by { HeaderTable-prop (items_in tableau.sheet.now).loops (length (items_in tableau.sheet.now).loops) headers },
+    ghost headed: { HeaderTable (items_in tableau.sheet.now).loops (length (items_in tableau.sheet.now).loops) headers } by { HeaderTable-prop _ _ _ },
     ghost sourced: { SourceTable (items_in tableau.sheet.now).backs sources },
 }
 
