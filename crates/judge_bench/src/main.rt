@@ -12,6 +12,7 @@ use words::refusal::Refuse;
 use words::word::Kind;
 
 // The most bytes that are read: those of two lists of 4,096 words.
+// Kept: the marker's limit of this name is that of one list.
 const MOST_BYTES: usize = 32768;
 
 // How often a thing is timed.
@@ -53,6 +54,7 @@ fn print_times(rt: &HostRuntime, name: &str, times: &mut Vec<u64>) -> io::Result
 fn time_sheet(rt: &HostRuntime, room: &mut SheetRoom, bytes: &[u8]) -> anyhow::Result<()> {
     let heap = rt.alloc();
     let mut times = Vec::with_capacity(heap, ROUNDS)?;
+    // Kept: a number of rounds, and no index.
     for _ in 0..ROUNDS {
         let words = words_of(heap, bytes)?;
         let start = Instant::now(rt)?;
@@ -72,6 +74,7 @@ fn time_judge(rt: &HostRuntime, room: &SheetRoom, bytes: &[u8]) -> anyhow::Resul
     let heap = rt.alloc();
     let mut times = Vec::with_capacity(heap, ROUNDS)?;
     let mut accepted = 0;
+    // Kept: a number of rounds, and no index.
     for _ in 0..ROUNDS {
         let words = words_of(heap, bytes)?;
         let start = Instant::now(rt)?;

@@ -6,6 +6,7 @@ use anyhow::anyhow;
 use std::alloc::Global;
 
 // The words of the bytes, which must be whole.
+// Kept: the benchmark has one of its own, which leaves a cut word out; each is one chain of the library's methods.
 pub(crate) fn words_of(heap: Global, bytes: &[u8]) -> anyhow::Result<Vec<u32>>
     ensures items { IfOk result (λ words. words.items ≡ words_of bytes.now) }
     ensures len { IfOk result (λ words. 4 * vec_len words ≡ length bytes.now) }
@@ -23,6 +24,7 @@ pub(crate) fn words_of(heap: Global, bytes: &[u8]) -> anyhow::Result<Vec<u32>>
 }
 
 // The first list, and what follows it; none where the words end before it does.
+// Kept: `mark_cases` takes bytes, whose number stands in four of them; each is two calls of the library.
 pub(crate) fn take_list(words: &[u32]) -> Option<(&[u32], &[u32])>
     ensures cases { MatchOption result (Cut words.now) (λ x. Begins words.now x.0.now x.1.now) }
     ensures bound { IfSome result (λ x. length x.1.now < length words.now) }

@@ -18,6 +18,7 @@ fn print_case(
     sheet: &[u32],
     certificate: &[u32],
 ) -> anyhow::Result<()> {
+    // Kept: a line is written without allocating, into memory that is lent.
     let mut line = [0; MOST_LINE];
     let Ok(end) = answer(room, sheet, certificate, &mut line) else {
         return Err(anyhow!("a line is too long"));

@@ -11,6 +11,7 @@ fn run(rt: &HostRuntime) -> anyhow::Result<()> {
     let mut marker = Marker::reserve(heap)?;
     let mut input = Vec::with_capacity(heap, MOST_BYTES)?;
     rt.stdin().take(MOST_BYTES as u64).read_to_end(&mut input)?;
+    // Kept: a line is written without allocating, into memory that is lent.
     let mut text = [0; MOST_LINE];
     let Ok(end) = marker.sheet(&input, &mut text, 0) else {
         return Err(anyhow!("a line is too long"));

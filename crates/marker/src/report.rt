@@ -42,6 +42,7 @@ pub fn numbers(sheet: &Sheet) -> SheetNumbers
     }
 }
 
+// Kept: `held` ties the sheets before and after a call, which no invariant of one value can say.
 impl Marker {
     // Reserves the memory. The sheet is the blank one.
     pub fn reserve(heap: Global) -> Result<Marker, AllocError>
@@ -101,7 +102,7 @@ mod mark_tests {
     use super::*;
     use std::test::Fail;
 
-    // Whether these lines are printed for the input.
+    // Whether these lines are printed for the input. Kept: each helper tries a call of its own.
     fn prints(marker: &mut Marker, heap: Global, input: &[u8], lines: &[u8]) -> bool {
         let mut text = Vec::new(heap);
         match marker.mark(input, &mut text) {
@@ -155,7 +156,7 @@ mod sheet_tests {
     use super::*;
     use std::test::Fail;
 
-    // Whether this is what is printed for the input.
+    // Whether this is what is printed for the input. Kept: each helper tries a call of its own.
     fn prints(marker: &mut Marker, input: &[u8], text: &[u8]) -> bool {
         let mut out = [0u8; 128];
         match marker.sheet(input, &mut out, 0) {

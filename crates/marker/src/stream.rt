@@ -44,6 +44,7 @@ fn next(
         }
         return Ok(None);
     };
+    // Kept: the kinds are a closed set, so a `match` says which step to run more plainly than closures would.
     match Kind::from(word) {
         Kind::Claim => {
             words.take(bytes);

@@ -19,6 +19,7 @@ use std::alloc::{AllocError, Global};
 // The memory of a traversal, for a sheet of any size.
 #[derive(Drop)]
 pub struct Traversal {
+    // Kept: nothing is allocated while a sheet is read, so the links between edges are numbers in reserved memory.
     latest: BoundedVec<Option<usize>, MOST_BLOCKS>,
     before: BoundedVec<Option<usize>, MOST_EDGES>,
     reach: Reach,

@@ -41,6 +41,7 @@ fn facts(list: &mut Vec<u32>) -> Result<(), AllocError> {
 }
 
 // The list with each of these words after it, which is refused with the number given, at that word.
+// Kept: the number is stated as it is printed.
 fn all_refused_next(
     room: &mut SheetRoom,
     list: &mut Vec<u32>,

@@ -1,6 +1,7 @@
 // The kinds of words, and lists of words that are built in code.
 use std::alloc::AllocError;
 
+// Kept: words are stated as they stand in a list; made from `Kind` they would be made by the code under test.
 pub const HEAD: u32 = 0x1000_0000;
 
 pub const BLOCK: u32 = 0x2000_0000;

@@ -7,6 +7,7 @@ use std::alloc::Global;
 use std::test::Fail;
 
 // A list that is refused: its words after some first words, the refusal's number and its place.
+// Kept: tests state the number that is printed, which an enum of faults would leave to the code under test.
 struct Case(&'static [u32], u8, usize);
 
 // Lists from their first word on.

@@ -27,6 +27,8 @@ impl<'a> Reader<'a> {
         place
     }
 
+    // Kept: `same` speaks of the reader before and after a call, which no invariant of one value can say.
+
     // The next word, or that the list has ended.
     pub fn next(&mut self) -> Result<Word, WordFault>
         ensures same { self.new.words ≡ self.old.words }

@@ -16,6 +16,7 @@ pub enum Layer {
 // What is reported of a fault: its number, its place, and the layer that found it.
 #[derive(Clone, Copy, PartialEq, Eq, Debug)]
 pub struct Refusal {
+    // Kept: what went wrong is an enum in each layer; this is the number that is printed for it.
     pub number: u8,
     pub place: usize,
     pub layer: Layer,

@@ -13,6 +13,7 @@ use words::reader::Reader;
 use words::refusal::WordFault;
 use words::word::Kind;
 
+// Kept: `same` speaks of the reader before and after a call, which no invariant of one value can say.
 impl Draft {
     // A word that is not of an l-block.
     fn item(
@@ -27,6 +28,7 @@ impl Draft {
         ensures { Turn section (items_of self.old) word.kind word.payload.0 word.at (drop (word.at + 1) reader.now.words.now) result (items_of self.new) }
     {
         demand(section.due(word.kind), WordFault::NotDue(word.at))?;
+        // Kept: the kinds are a closed set, so a `match` says which step to run more plainly than closures would.
         match word.kind {
             Kind::Head => self.head_word(word),
             Kind::Block => self.block_word(word),

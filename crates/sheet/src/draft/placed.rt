@@ -13,6 +13,7 @@ pub(crate) struct PlacedWord {
     pub(crate) at: usize,
 }
 
+// Kept: `same` as at `Reader`.
 impl PlacedWord {
     // The next word, or that the list has ended.
     pub(crate) fn next(reader: &mut Reader) -> Result<PlacedWord, WordFault>

@@ -87,6 +87,7 @@ impl Reach {
         ensures { Found (sheet_of g.now) result out.new.list.items }
     {
         out.clear();
+        // Kept: a set is a number and no place in a list.
         for set in 0..g.sets {
             if is_used(g.lblocks, set) {
                 self.list_set(g, set, out)?;

@@ -19,9 +19,11 @@ pub struct Reach {
     pub from: Node,
     pub seen: BoundedVec<bool, MOST_LBLOCKS>,
     pub ended: bool,
+    // Kept: nothing is allocated while a sheet is read, so nodes go by number.
     pub queue: BoundedVec<usize, MOST_LBLOCKS>,
 }
 
+// Kept: `Going`, `On` and `Source` tie the traversal to the graph that it goes over; it does not hold the graph, since its memory outlives it.
 impl Reach {
     pub(crate) fn reserve(heap: Global) -> Result<Reach, AllocError> {
         Ok(Reach {
