@@ -8,7 +8,7 @@ use std::alloc::{AllocError, Global};
 use std::io;
 use std::io::Read;
 use std::time::{Duration, Instant};
-use words::refusal::Refuse;
+use words::refusal::{Refusal, Refuse};
 use words::word::Kind;
 
 // The most bytes that are read: those of two lists of 4,096 words.
@@ -50,6 +50,7 @@ fn print_times(rt: &HostRuntime, name: &str, times: &mut Vec<u64>) -> io::Result
     println!(rt; "{name} best {best} median {median}")
 }
 
+// Kept: two loops; with the timed call in a closure, the best time of reading a sheet was 2.34 ms and not 2.17 ms.
 // Times reading the sheet again and again. Each round takes its words anew, so that no reading can be left out.
 fn time_sheet(rt: &HostRuntime, room: &mut SheetRoom, bytes: &[u8]) -> anyhow::Result<()> {
     let heap = rt.alloc();
@@ -83,9 +84,7 @@ fn time_judge(rt: &HostRuntime, room: &SheetRoom, bytes: &[u8]) -> anyhow::Resul
         match answer {
             Ok(w) => accepted = w.0,
             Err(fault) => {
-                let refusal = fault.refusal();
-                let number = refusal.number;
-                let place = refusal.place;
+                let Refusal { number, place, .. } = fault.refusal();
                 println!(rt; "claim refused {number} at {place}")?;
                 return Ok(());
             }

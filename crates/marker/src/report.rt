@@ -81,6 +81,7 @@ impl Marker {
     }
 
     // Appends the lines that are printed for the input.
+    #[tactic(auto, using(crate::proofs::Going::step_by_step))]
     pub fn mark(&mut self, input: &[u8], text: &mut Vec<u8>) -> Result<(), AllocError>
         ensures printed { Printed text.old.items (report input.now) result text.new.items }
         ensures held { HeldAfter (first_list input.now) self.old.room.sheet self.new.room.sheet }
@@ -105,10 +106,7 @@ mod mark_tests {
     // Whether these lines are printed for the input. Kept: each helper tries a call of its own.
     fn prints(marker: &mut Marker, heap: Global, input: &[u8], lines: &[u8]) -> bool {
         let mut text = Vec::new(heap);
-        match marker.mark(input, &mut text) {
-            Ok(()) => text.as_slice() == lines,
-            Err(_) => false,
-        }
+        marker.mark(input, &mut text).is_ok() && text.as_slice() == lines
     }
 
     #[test]
