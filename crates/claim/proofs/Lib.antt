@@ -1,5 +1,3 @@
-pub mod Turns
-pub mod Reading
 pub mod Pairs
 pub mod Taken
 pub mod Ints

@@ -1,7 +1,7 @@
 -- For code: what the loop rows add to the columns of the edges. Assumes nothing.
-use Rattle.std.proofs.Common.{◌≡◌, ℕ, zero, suc, ◌+◌, ◌^◌, ◌<◌, ◌≤◌, Bool, true, false, cond, not, ◌&&◌, ◌||◌, eqb, ◌≢◌, ◌⊎◌, List, [], ◌∷◌, ◌++◌, map, length, get_or, take, set, replicate, ℤ, pos, ◌+ℤ◌, ◌-ℤ◌, ◌*ℤ◌, neg_ℤ, Some, None, filter, Option, sym, refl, ap, ◌∙◌, subst, ap₂, inl, inr, le_of_suc-le-suc, not-suc-le-zero, zero-add, arith}
+use Rattle.std.proofs.Common.{◌≡◌, ℕ, zero, suc, ◌+◌, ◌^◌, ◌<◌, ◌≤◌, Bool, true, false, cond, not, ◌&&◌, ◌||◌, eqb, ◌≢◌, ◌⊎◌, List, [], ◌∷◌, ◌++◌, map, length, get_or, take, set, replicate, ℤ, pos, ◌+ℤ◌, ◌-ℤ◌, ◌*ℤ◌, neg_ℤ, Some, None, filter, sym, refl, ap, ◌∙◌, subst, ap₂, inl, inr, le_of_suc-le-suc, not-suc-le-zero, zero-add, arith}
 use lib.IntN.{*ℤ-zero}
-use Rattle.std.proofs.lemmas.List.{get_or-set_same, get_or-set_other, get_or-replicate, get_or_default, length-set, take_more, take_all}
+use Rattle.std.proofs.lemmas.List.{get_or-set_same, get_or-set_other, get_or-replicate, length-set, take_more}
 use Rattle.std.proofs.lemmas.Int.{ints}
 use Rattle.std.proofs.lemmas.Bool.{eq-eqb, ne_eqb, cases_eq, and_left, and_right, and_from}
 use Rattle.words.specs.Lists.{any}
@@ -26,19 +26,6 @@ use Rattle.claim.proofs.Sheets.{sheet_sound}
 -- the table of headers
 pub no_headers : (hs : List Header) → HeaderTable hs 0 (replicate 128 None)
 no_headers hs b d h = subst (HeaderAt hs 0 b) (sym (get_or-replicate 128 b None d h)) (λ k e l. absurd (not-suc-le-zero l))
-
-pub more_headers : (hs : List Header) (i : ℕ) (t : List (Option ℕ)) → length t ≡ 128 → i < length hs → (e : Header) → HeaderTable hs i t → HeaderTable hs (i + 1) (set t (get_or hs i e).header (Some i))
-more_headers hs i t n l e h b d p = go (cases_eq b (get_or hs i e).header)
-  where
-    wider : (o : Option ℕ) → b ≢ (get_or hs i e).header → HeaderAt hs i b o → HeaderAt hs (i + 1) b o
-    wider None u a = λ k x q y. elim (cases_eq k i) [ inl r ↦ u (sym y ∙ ap (λ m. (get_or hs m x).header) r ∙ ap (λ z. z.header) (get_or_default hs i x e l)) | inr r ↦ a k x (omega arith) y ]
-    wider (Some k) u a = (omega (arith, a.0), a.1)
-
-    go : (b ≡ (get_or hs i e).header) ⊎ (b ≡ (get_or hs i e).header → ⊥) → HeaderAt hs (i + 1) b (get_or (set t (get_or hs i e).header (Some i)) b d)
-    go (inl u) =
-        subst (HeaderAt hs (i + 1) b) (sym (ap (λ x. get_or (set t (get_or hs i e).header (Some i)) x d) u ∙ get_or-set_same t (get_or hs i e).header (Some i) d (omega arith)))
-        (omega arith, λ x. ap (λ z. z.header) (get_or_default hs i x e l) ∙ sym u)
-    go (inr u) = subst (HeaderAt hs (i + 1) b) (sym (get_or-set_other t (get_or hs i e).header b (Some i) d u)) (wider (get_or t b d) u (h b d p))
 
 -- the table of back edges
 any_push : {A : Type 0} (p : A → Bool) (xs : List A) (x : A) → any p (xs ++ (x ∷ [])) ≡ (any p xs || p x)
@@ -130,9 +117,6 @@ module _ (bs : List BackEdge) (i : ℕ) (f : BackEdge) (n : i < length bs) (t : 
       go : (32 ≤ o) ⊎ (128 ≤ c) → (eqb o l && eqb s c) ≡ false
       go (inl x) = and_left (eqb o l) (eqb s c) (ne_eqb o l (λ z. omega arith))
       go (inr x) = and_right (eqb o l) (eqb s c) (ne_eqb s c (λ z. omega arith))
-
-pub all_sources : (bs : List BackEdge) (i : ℕ) (t : List (List Bool)) → length bs ≤ i → SourceTable (take i bs) t → SourceTable bs t
-all_sources bs i t l h = subst (λ xs. SourceTable xs t) (take_all i bs l) h
 
 -- the loop rows at an edge: only the row of the loop whose header it leads to
 nowhere : {A : Type 0} (ys : List ℤ) (xs : List A) (f : A → ℤ) (d : A) → ((j : ℕ) → j < length xs → f (get_or xs j d) ≡ pos 0) → combined ys xs f ≡ pos 0

@@ -1,37 +1,24 @@
 -- For code: the used sets, and the l-blocks that conflict edges join. Assumes nothing.
-use Rattle.std.proofs.Common.{◌≡◌, ℕ, zero, suc, ◌+◌, ◌<◌, ◌≤◌, Bool, true, false, cond, ◌||◌, eqb, ◌⊎◌, List, [], ◌∷◌, ◌++◌, length, get_or, take, set, replicate, filter, sym, refl, ap, ◌∙◌, subst, inl, inr, not-suc-le-zero, arith}
+use Rattle.std.proofs.Common.{◌≡◌, ℕ, zero, suc, ◌+◌, ◌<◌, Bool, true, false, cond, ◌⊎◌, List, [], ◌∷◌, ◌++◌, length, get_or, take, set, replicate, filter, sym, refl, ap, ◌∙◌, subst, inl, inr, not-suc-le-zero, arith}
 use Rattle.std.specs.List.{ContainsAt as Has, AllByRecursion}
 use Rattle.std.proofs.lemmas.List.Elements.{filter-append}
 use Rattle.std.proofs.ByRecursion.{All-get_or, all_has_itself, All-append, All-map, all-has, all_kept_by, kept_by_passes}
-use Rattle.std.proofs.lemmas.List.{get_or-set_same, get_or-set_other, get_or-replicate, length-append, take_all}
-use Rattle.std.proofs.lemmas.Bool.{eq-eqb, ne_eqb, cases_eq}
-use Rattle.words.specs.Lists.{below, any, joined}
+use Rattle.std.proofs.lemmas.List.{get_or-set_same, get_or-set_other, get_or-replicate, length-append}
+use Rattle.std.proofs.lemmas.Bool.{cases_eq}
+use Rattle.words.specs.Lists.{below, joined}
 use Rattle.words.proofs.Lists.{all_below}
 use Rattle.sheet.specs.Sheet.{Sheet}
 use Rattle.sheet.specs.Conflict.{in_set, used, used_sets, IsConflict}
 use Rattle.sheet.specs.ConflictList.{conflicts, conflicts_of, conflicts_from, leads_to, members, set_lblocks, conflicting}
 use Rattle.sheet.specs.Kept.{used_among}
 use Rattle.sheet.proofs.SheetLists.{below_push}
-use Rattle.sheet.proofs.Used.{used_more, used_few}
+use Rattle.sheet.proofs.Used.{used_more}
 use Rattle.claim.specs.Items.{LBlock, Node, START, at, END, Conflict}
 use Rattle.claim.specs.Tables.{UsedTable, NodeIn}
-use Rattle.claim.proofs.Loopings.{any_more, or_true, or_no}
 
 -- the table of used sets
 pub none_used : (vs : List LBlock) → UsedTable (take 0 vs) (replicate 64 false)
 none_used vs s h = get_or-replicate 64 s false false h
-
-pub more_used : (vs : List LBlock) (i : ℕ) (d : LBlock) (t : List Bool) → length t ≡ 64 → i < length vs → (get_or vs i d).set < 64 → UsedTable (take i vs) t → UsedTable (take (i + 1) vs) (set t (get_or vs i d).set true)
-more_used vs i d t n l p h s q = go (cases_eq s (get_or vs i d).set) ∙ sym (any_more (λ b. eqb b.set s) vs i d l)
-  where
-    go : (s ≡ (get_or vs i d).set) ⊎ (s ≡ (get_or vs i d).set → ⊥) → get_or (set t (get_or vs i d).set true) s false ≡ (any (λ b. eqb b.set s) (take i vs) || eqb (get_or vs i d).set s)
-    go (inl e) =
-        ap (λ x. get_or (set t (get_or vs i d).set true) x false) e ∙ get_or-set_same t (get_or vs i d).set true false (omega arith)
-        ∙ or_true (any (λ b. eqb b.set s) (take i vs)) (eqb (get_or vs i d).set s) (eq-eqb (get_or vs i d).set s (sym e))
-    go (inr e) = get_or-set_other t (get_or vs i d).set s true false e ∙ h s q ∙ or_no (any (λ b. eqb b.set s) (take i vs)) (eqb (get_or vs i d).set s) (ne_eqb (get_or vs i d).set s (λ x. e (sym x)))
-
-pub all_used : (vs : List LBlock) (i : ℕ) (t : List Bool) → length vs ≤ i → UsedTable (take i vs) t → UsedTable vs t
-all_used vs i t l h = subst (λ xs. UsedTable xs t) (take_all i vs l) h
 
 -- the table of ranks, as far as set n
 abbrev pub RanksTo : List LBlock → ℕ → List ℕ → Type 0
@@ -107,7 +94,3 @@ pub conflict_at : (S : Sheet) (cs : List Conflict) → cs ≡ conflicts S → (p
 conflict_at S cs e p d h =
     let l : p < length cs = subst (λ xs. p < length xs) (sym e) h in
     (subst (λ xs. NodeIn (length S.lblocks) (get_or xs p d).from × NodeIn (length S.lblocks) (get_or xs p d).to) (sym e) (All-get_or (EndsIn S) (conflicts S) p d h (ends_in S)), All-get_or (Has cs) cs p d l (all_has_itself cs))
-
--- there are no more used sets than sets
-pub few_used : (S : Sheet) → length (used_sets S) ≤ S.sets
-few_used S = used_few S.lblocks S.sets

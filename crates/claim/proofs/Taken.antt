@@ -5,7 +5,7 @@ use Rattle.std.proofs.lemmas.List.{drop-drop, map-append}
 use Rattle.words.specs.Words.{accepted, refused}
 use Rattle.claim.specs.Kinds.{Refusal}
 use Rattle.claim.specs.Certificate.{Certificate}
-use Rattle.claim.specs.ReadCertificate.{State, stands, at_claim, at_W, at_pair, with_D, with_W, with_multiplier, start, read_from, read_certificate}
+use Rattle.claim.specs.ReadCertificate.{State, stands, at_pair, with_multiplier, start, read_from, read_certificate}
 use Rattle.claim.specs.Parts.{multiplier, multipliers, Onward}
 use Rattle.claim.proofs.Pairs.{chunked_more}
 
@@ -27,14 +27,6 @@ pub same_onward : (us ws : List ℕ) (i j k : ℕ) → us ≡ ws → i ≡ j →
 same_onward us ws i j k e f s t h = sym (same_read us ws i j e f s) ∙ h ∙ ap (λ vs. read_from t (drop k vs) k) e
 
 module _ (ws : List ℕ) (n : ℕ) where
-  pub none_taken : (w d i j : ℕ) → i ≡ 0 + 1 → ((m : ℕ) (C : Certificate) → Onward ws (stands (at_claim m) C) 0 (stands (at_W m) (with_D C d)) i)
-      → ((m : ℕ) (C : Certificate) → Onward ws (stands (at_W m) C) i (stands (at_pair m) (with_W C w)) j) → j ≡ i + 2 → i + 1 < length ws → Taken ws n w d 0 j
-  none_taken w d i j e f g q h = record {
-    onward = f n (record { W = 0; D = 0; multipliers = [] }) ∙ g n (record { W = 0; D = d; multipliers = [] }) ∙ ap (λ m. read_from (stands (at_pair m) (record { W = w; D = d; multipliers = [] })) (drop j ws) j) (omega arith);
-    place = omega arith;
-    inside = omega arith;
-  }
-
   module _ (w d k i : ℕ) (t : Taken ws n w d k i) (l : k < n) where
     left : n - k ≡ suc (n - (k + 1))
     left = omega arith
@@ -64,9 +56,6 @@ module _ (ws : List ℕ) (n : ℕ) where
   module _ (w d k i : ℕ) (t : Taken ws n w d k i) (e : n ≤ k) where
     at_end : read_certificate n ws ≡ read_from (stands (at_pair 0) (so_far ws w d k)) (drop i ws) i
     at_end = t.onward ∙ ap (λ m. read_from (stands (at_pair m) (so_far ws w d k)) (drop i ws) i) (omega arith)
-
-    pub end_refused : (r : Refusal) → ((C : Certificate) → read_from (stands (at_pair 0) C) (drop i ws) i ≡ refused r) → read_certificate n ws ≡ refused r
-    end_refused r f = at_end ∙ f (so_far ws w d k)
 
     pub all_taken : k ≤ n → ((C : Certificate) → read_from (stands (at_pair 0) C) (drop i ws) i ≡ accepted C) → (ps : List (List ℕ)) → ps ≡ first_chunks 2 n (drop 3 ws)
         → read_certificate n ws ≡ accepted (record { W = w; D = d; multipliers = multipliers ps })

@@ -1,13 +1,10 @@
-use Rattle.std.proofs.Common.{◌≡◌, ◌+◌, true, false, refl, ◌∙◌, not-suc-le-zero, arith}
+use Rattle.std.proofs.Common.{◌≡◌, ◌+◌, true, false, ◌∙◌, arith}
 use Rattle.std.proofs.lemmas.List.{length-set}
 use Rattle.sheet.specs.Kept.{used_among}
 use Rattle.sheet.proofs.Used.{used_few}
 use Rattle.claim.proofs.Sets.{more_ranks, more_count}
 use Rattle.claim.proofs.column.conflict.set_ranks.Goals as goal
 use Rattle.claim.proofs.column.conflict.set_ranks.Goals.{then-used, else-used}
-
-pub loop-set-init : goal.loop-set-init
-loop-set-init c = (λ s h. absurd (not-suc-le-zero h), refl, refl)
 
 pub overflow_add-count : goal.overflow_add-count
 overflow_add-count c = omega (arith, c.loop-set.invariant.1, used_few c.args.lblocks.now c.loop-set.set, c.loop-set-test.true)
@@ -24,6 +21,3 @@ loop-set-preserved c =
       | else-used w ↦ more_count vs n k c.if-used.count true false c.used_sets.result c.used_sets.ensures c.loop-set-test.true w.if-used.false c.loop-set.invariant.1 (omega (arith, w.count-is))
     ] in
     (more_ranks vs n k t c.loop-set.invariant.2 c.loop-set-test.true c.loop-set.invariant.1 c.loop-set.invariant.0, e, length-set t n k ∙ c.loop-set.invariant.2)
-
-pub returns : goal.returns
-returns c = λ s h. c.loop-set.invariant.0 s (omega (arith, h, c.loop-set-test.false))

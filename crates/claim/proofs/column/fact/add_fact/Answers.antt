@@ -1,17 +1,9 @@
 use Rattle.std.proofs.Common.{◌+◌, ◌*◌, ◌^◌, get_or, set, pos, ◌-ℤ◌, ◌*ℤ◌, sym, ap, ◌∙◌, subst, arith}
 use Rattle.std.proofs.lemmas.List.{get_or-set_other}
 use Rattle.claim.specs.Shares.{Near}
-use Rattle.claim.proofs.Nears.{near_fits, near_add, near_sub, near_times}
+use Rattle.claim.proofs.Nears.{near_fits, near_sub, near_times}
 use Rattle.claim.proofs.Facts.{nothing, fact_added}
 use Rattle.claim.proofs.column.fact.add_fact.Goals as goal
-
-pub add-requires : goal.add-requires
-add-requires c =
-    near_fits (31 * 2 ^ 55 + 2 ^ 40) _ (omega arith)
-    (near_add (31 * 2 ^ 55) (2 ^ 40) (get_or c.args.shares.now c.args.fact.now.i nothing).0 c.args.multiplier.0 (c.requires.room c.args.fact.now.i nothing c.requires.fits.0) c.requires.near)
-
-pub mul-requires : goal.mul-requires
-mul-requires c = near_fits (2 ^ 54) _ (omega arith) (near_times (2 ^ 40) (2 ^ 14) c.args.fact.now.k c.args.multiplier.0 (omega (arith, c.requires.fits.3)) c.requires.near)
 
 pub sub-requires : goal.sub-requires
 sub-requires c =

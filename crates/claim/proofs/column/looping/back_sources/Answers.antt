@@ -1,7 +1,7 @@
 use Rattle.std.proofs.Common.{◌+◌, [], get_or, take, sym, subst, inl, inr}
 use Rattle.sheet.specs.declared.parts.BackEdge.{BackEdge}
 use Rattle.claim.specs.Tables.{SourceTable}
-use Rattle.claim.proofs.Loopings.{Square, none_sources, none_square, more_sources, marked_square, same_sources, all_sources}
+use Rattle.claim.proofs.Loopings.{Square, none_sources, none_square, more_sources, marked_square, same_sources}
 use Rattle.claim.proofs.column.looping.back_sources.Goals as goal
 use Rattle.claim.proofs.column.looping.back_sources.Goals.{then-back-lt32+then-back-lt128, else-back-lt32, else-back-lt32-via-then-back-lt32+else-back-lt128, else-back-lt32-via-else-back-lt32}
 
@@ -29,6 +29,3 @@ loop-back-preserved c =
             q,
           )
     ]
-
-pub returns : goal.returns
-returns c = all_sources c.args.backs.now c.loop-back.back-index c.loop-back.sources c.loop-back-test.false c.loop-back.invariant.0

@@ -1,18 +1,10 @@
-use Rattle.std.proofs.Common.{◌≡◌, ◌+◌, ◌*◌, ◌^◌, ◌<◌, [], length, get_or, pos, ◌+ℤ◌, sym, refl, ap, ◌∙◌, subst, ap₂, zero-add, arith}
-use Rattle.std.proofs.lemmas.List.{length-map, get_or-map, take_all}
+use Rattle.std.proofs.Common.{◌≡◌, ◌+◌, ◌*◌, ◌^◌, ◌<◌, [], length, get_or, pos, ◌+ℤ◌, sym, ap, ◌∙◌, subst, ap₂, zero-add, arith}
+use Rattle.std.proofs.lemmas.List.{length-map, get_or-map}
 use Rattle.claim.specs.Parts.{multiplier, multipliers}
-use Rattle.claim.specs.Shares.{total, Near}
-use Rattle.claim.proofs.Nears.{near_fits, near_zero, near_more, near_add}
+use Rattle.claim.specs.Shares.{Near}
+use Rattle.claim.proofs.Nears.{near_more, near_add}
 use Rattle.claim.proofs.Weights.{total_more}
 use Rattle.claim.proofs.rows.value.sum.Goals as goal
-
-pub loop-pair-init : goal.loop-pair-init
-loop-pair-init c = (refl, near_zero (0 * 2 ^ 40))
-
-pub add-sum-requires : goal.add-sum-requires
-add-sum-requires c =
-    let i = c.loop-pair.pair-index in
-    near_fits (i * 2 ^ 40 + 2 ^ 40) _ (omega (arith, c.loop-pair-test.true, c.requires)) (near_add (i * 2 ^ 40) (2 ^ 40) c.loop-pair.sum.0 c.multiplier.result.0 c.loop-pair.invariant.1 c.multiplier.ensures.near)
 
 pub loop-pair-preserved : goal.loop-pair-preserved
 loop-pair-preserved c =
@@ -24,12 +16,3 @@ loop-pair-preserved c =
       subst (Near ((i + 1) * 2 ^ 40)) (sym c.add-sum.ensures)
           (near_more (i * 2 ^ 40 + 2 ^ 40) ((i + 1) * 2 ^ 40) _ (omega arith) (near_add (i * 2 ^ 40) (2 ^ 40) c.loop-pair.sum.0 c.multiplier.result.0 c.loop-pair.invariant.1 c.multiplier.ensures.near)),
     )
-
-pub returns : goal.returns
-returns c =
-    let i = c.loop-pair.pair-index in
-    let ps = c.args.pairs.now in
-    record {
-      sum = c.loop-pair.invariant.0 ∙ ap total (take_all i (multipliers ps) (omega (arith, length-map ps multiplier, c.loop-pair-test.false)));
-      near = near_more (i * 2 ^ 40) (2 ^ 49) _ (omega (arith, c.loop-pair.auto.pair-index-end, c.requires)) c.loop-pair.invariant.1;
-    }

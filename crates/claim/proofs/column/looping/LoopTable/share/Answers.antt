@@ -22,21 +22,6 @@ at-multiplier-requires c =
     let h = found L c.args.edge.to c.in-Some.number c.requires.1 c.in-Some.ensures in
     omega (arith, h.0, length-map L.tableau.rows.loops.now multiplier, L.tableau.sized.loops, length-loops I.backs 0 I.loops)
 
-pub comes_from-requires : goal.comes_from-requires
-comes_from-requires c =
-    let L = c.args.self.now in
-    let h = found L c.args.edge.to c.in-Some.number c.requires.1 c.in-Some.ensures in
-    (omega (arith, h.0, (sheet_sound L.tableau.sheet.now).few_loops), c.requires.0)
-
-pub bounds-loops-number : goal.bounds-loops-number
-bounds-loops-number c = let h = found c.args.self.now c.args.edge.to c.in-Some.number c.requires.1 c.in-Some.ensures in omega (arith, h.0, ap length c.loops.ensures)
-
-pub offset_bounds-loops-number : goal.offset_bounds-loops-number
-offset_bounds-loops-number c =
-    let L = c.args.self.now in
-    let h = found L c.args.edge.to c.in-Some.number c.requires.1 c.in-Some.ensures in
-    omega (arith, h.0, (sheet_sound L.tableau.sheet.now).few_loops)
-
 pub mul-requires : goal.mul-requires
 mul-requires c =
     near_fits (2 ^ 54) _ (omega arith)
