@@ -33,6 +33,7 @@ fn at_most(sheet: &Sheet, row: usize) -> bool
 }
 
 // The first at_most row whose multiplier is negative.
+// Kept: the rows stand in one list here, which a tableau divides.
 fn negative_row(sheet: &Sheet, pairs: &[[u32; 2]]) -> Option<usize>
     requires { length pairs.now ≡ length (row_list (view sheet.now)) }
     ensures { FirstLow as_tested (sign_tests (multipliers pairs.now) (row_list (view sheet.now))) result }

@@ -21,6 +21,7 @@ pub struct Tableau<'a> {
 
 impl<'a> Tableau<'a> {
     // The tableau of a sheet, from the pairs of its rows.
+    // Kept: who makes a tableau brings a pair for each row; from then on the type says so.
     pub(crate) fn new(sheet: &'a Sheet, pairs: &'a [[u32; 2]], scale: Denominator) -> Tableau<'a>
         requires { length pairs.now ≡ length (row_list (view sheet.now)) }
         ensures sheet { result.sheet.now ≡ sheet.now }

@@ -25,6 +25,7 @@ fn read_high(reader: &mut Reader) -> Result<Payload, ClaimFault>
 {
     let at = reader.place();
     let word = reader.next()?;
+    // Kept: three kinds of word, told apart by a `match` more plainly than by closures.
     match word.kind {
         Kind::High if word.payload.unused() == 0 => Ok(word.payload),
         Kind::High => Err(ClaimFault::WrongSign(at)),
@@ -75,6 +76,7 @@ fn read_end(reader: &mut Reader) -> Result<(), ClaimFault>
 {
     let at = reader.place();
     let word = reader.next()?;
+    // Kept: three kinds of word, told apart by a `match` more plainly than by closures.
     match word.kind {
         Kind::End => Ok(reader.close(at, word.payload)?),
         Kind::High => Err(ClaimFault::WrongPairs(at)),

@@ -25,6 +25,7 @@ fn used_sets(lblocks: &[LBlock]) -> [bool; 64]
     requires { SetsFit lblocks.now }
     ensures { UsedTable lblocks.now result }
 {
+    // Kept: judging allocates nothing, so a table is an array as long as its limit.
     let mut used = [false; 64];
     for lblock in lblocks {
         used[lblock.set] = true;
@@ -37,6 +38,7 @@ fn set_ranks(lblocks: &[LBlock]) -> [usize; 64]
     requires { SetsFit lblocks.now }
     ensures { RankTable lblocks.now result }
 {
+    // Kept: judging allocates nothing, so a table is an array as long as its limit.
     let mut ranks = [0; 64];
     let mut count = 0;
     for (set, used) in used_sets(lblocks).iter().enumerate() {
@@ -84,6 +86,7 @@ impl Tableau<'_> {
 
 impl<'a> SetTable<'a> {
     // The used sets of a tableau's sheet.
+    // Kept: the clause says which tableau was taken, of each type that is made of one.
     fn of(tableau: &Tableau<'a>) -> SetTable<'a>
         ensures { result.tableau ≡ tableau.now }
     {

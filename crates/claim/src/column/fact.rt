@@ -38,6 +38,7 @@ fn fact_shares(facts: &[Fact], pairs: &[[u32; 2]]) -> [Scaled; 128]
     ensures shares { FactTable (multipliers pairs.now) facts.now result }
     ensures near { AllNear (2 ^ 60) result }
 {
+    // Kept: judging allocates nothing, so a table is an array as long as its limit.
     let mut shares = [Scaled::ZERO; 128];
     for (fact, pair) in facts.iter().zip(pairs) {
         add_fact(&mut shares, fact, multiplier(pair));
@@ -47,6 +48,7 @@ fn fact_shares(facts: &[Fact], pairs: &[[u32; 2]]) -> [Scaled; 128]
 
 impl<'a> FactShares<'a> {
     // The facts of a tableau's sheet.
+    // Kept: the clause says which tableau was taken, of each type that is made of one.
     pub(crate) fn of(tableau: &Tableau<'a>) -> FactShares<'a>
         ensures { result.tableau ≡ tableau.now }
     {

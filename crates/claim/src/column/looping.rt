@@ -25,6 +25,7 @@ fn loop_headers(loops: &[Loop]) -> [Option<usize>; 128]
     requires { HeadersFit loops.now }
     ensures { HeaderTable loops.now (length loops.now) result }
 {
+    // Kept: judging allocates nothing, so a table is an array as long as its limit.
     let mut headers = [None; 128];
     for (number, header) in loops.iter().enumerate() {
         headers[header.header] = Some(number);
@@ -36,6 +37,7 @@ fn loop_headers(loops: &[Loop]) -> [Option<usize>; 128]
 fn back_sources(backs: &[BackEdge]) -> [[bool; 128]; 32]
     ensures { SourceTable backs.now result }
 {
+    // Kept: judging allocates nothing, so a table is an array as long as its limit.
     let mut sources = [[false; 128]; 32];
     for back in backs {
         if back.owner < 32 && back.source < 128 {
@@ -47,6 +49,7 @@ fn back_sources(backs: &[BackEdge]) -> [[bool; 128]; 32]
 
 impl<'a> LoopTable<'a> {
     // The loops of a tableau's sheet.
+    // Kept: the clause says which tableau was taken, of each type that is made of one.
     pub(crate) fn of(tableau: &Tableau<'a>) -> LoopTable<'a>
         ensures { result.tableau ≡ tableau.now }
     {

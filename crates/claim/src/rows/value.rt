@@ -8,6 +8,7 @@ use crate::scaled::Scaled;
 use words::word::Payload;
 
 // The multiplier that a pair of words gives.
+// Kept: `near` bounds what is answered; a type of near amounts would need sums and differences of its own.
 pub(crate) fn multiplier(pair: &[u32; 2]) -> Scaled
     ensures value { result.0 ≡ multiplier_of pair.now }
     ensures near { Near (2 ^ 40) result.0 }
