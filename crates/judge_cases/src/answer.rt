@@ -1,6 +1,5 @@
 // The line of a case.
 ghost use Rattle.std.specs.Prelude.{◌≡◌, MatchResult};
-ghost use Rattle.words.specs.Words.{accepted, refused};
 ghost use Rattle.line.specs.Lines.{accepted_text, refusal_text};
 ghost use Rattle.line.specs.Written.{Written};
 ghost use Rattle.judge_cases.specs.Answer.{case_text};
