@@ -4,7 +4,7 @@
 mod bounded;
 mod draft;
 pub mod fault;
-mod limits;
+pub mod limits;
 pub mod parts;
 pub mod room;
 mod section;
