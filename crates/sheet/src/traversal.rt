@@ -7,6 +7,7 @@ ghost use Rattle.std.specs.Prelude.{◌≤◌, length};
 ghost use Rattle.sheet.specs.Sheet.{WellFormed};
 ghost use Rattle.sheet.specs.Graph.{graph_of, first_of, size_of, Table};
 ghost use Rattle.sheet.specs.Reads.{Found};
+ghost use Rattle.sheet.specs.declared.limits.TheConstants.{MOST_BLOCKS, MOST_LBLOCKS, MOST_EDGES};
 
 use crate::bounded::BoundedVec;
 use crate::fault::SheetFault;
@@ -45,9 +46,9 @@ impl Traversal {
     ) -> Result<(), SheetFault>
         requires formed { WellFormed (graph_of sets (length blocks.now) lblocks.now edges.now) }
         requires table { Table (graph_of sets (length blocks.now) lblocks.now edges.now) (first_of blocks.now) (size_of blocks.now) }
-        requires blocks { length blocks.now ≤ 128 }
-        requires lblocks { length lblocks.now ≤ 512 }
-        requires edges { length edges.now ≤ 512 }
+        requires blocks { length blocks.now ≤ MOST_BLOCKS }
+        requires lblocks { length lblocks.now ≤ MOST_LBLOCKS }
+        requires edges { length edges.now ≤ MOST_EDGES }
         ensures { Found (graph_of sets (length blocks.now) lblocks.now edges.now) result out.new.list.items }
     {
         link(blocks.len(), edges, &mut self.latest, &mut self.before);
