@@ -5,6 +5,7 @@ use Rattle.sheet.specs.declared.traversal.graph.Graph.{Graph}
 use Rattle.sheet.specs.declared.traversal.reach.Reach.{Reach}
 use Rattle.sheet.specs.declared.fault.SheetFault.{SheetFault}
 use Rattle.sheet.specs.declared.fault.SheetFault.TheVariants.{TooManyConflicts}
+use Rattle.sheet.specs.declared.limits.TheConstants.{MOST_CONFLICTS}
 use Rattle.sheet.specs.Sheet.{Sheet}
 use Rattle.sheet.specs.Conflict.{Node, START, at, END, Leads, in_set, used, Conflict}
 use Rattle.sheet.specs.ConflictList.{conflicting, conflicts_from, conflicts_of}
@@ -67,7 +68,7 @@ Source S END = Unit {0}
 -- Conflict edges of a set go to the end of a list while there are at most 4,096; where there would be more, the set is answered.
 abbrev pub Added : ℕ → List Conflict → List Conflict → Result (Unit {0}) SheetFault → List Conflict → Type 0
 Added s xs added (Ok u) ys = ys ≡ xs ++ added
-Added s xs added (Err e) ys = (4096 < length xs + length added) × (e ≡ TooManyConflicts s)
+Added s xs added (Err e) ys = (MOST_CONFLICTS < length xs + length added) × (e ≡ TooManyConflicts s)
 
 -- the conflict edge to a node, if the traversal saw it
 abbrev pub seen_edge : Reach → Node → List Conflict
