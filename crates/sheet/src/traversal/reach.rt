@@ -12,7 +12,7 @@ use crate::traversal::graph::Graph;
 use std::alloc::{AllocError, Global};
 
 // The node that a traversal starts from, and the set that ends its paths.
-#[derive(Clone, Copy, PartialEq, Eq, Debug)]
+#[derive(Clone, Copy)]
 pub struct Source {
     pub set: usize,
     pub from: Node,
@@ -23,7 +23,7 @@ pub struct Source {
 #[derive(Drop)]
 pub struct Reach {
     pub source: Source,
-    // Kept: nothing is allocated while a sheet is read, so nodes go by number.
+    // Kept: nothing is allocated while a sheet is read, so both lists are in reserved memory and l-blocks go by number.
     pub seen: BoundedVec<bool, MOST_LBLOCKS>,
     pub ended: bool,
     pub queue: BoundedVec<usize, MOST_LBLOCKS>,
