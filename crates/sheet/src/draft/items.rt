@@ -14,6 +14,7 @@ use words::reader::Reader;
 use words::refusal::WordFault;
 use words::word::Kind;
 
+// Kept: `Ready` ties the draft to the section that is being read, and a draft between two lists is in no section.
 impl Draft {
     // A word that is not of an l-block.
     fn item(
@@ -43,7 +44,7 @@ impl Draft {
 
     // An l-block, which is two words.
     fn lblock(&mut self, lacking: usize, reader: &mut Reader) -> Result<Option<Section>, SheetFault>
-        requires { Ready (LBlocks lacking) (items_of self.old) }
+        requires ready { Ready (LBlocks lacking) (items_of self.old) }
         ensures { Reads (Stepped (LBlocks lacking) (items_of self.old) (items_of self.new)) reader.old result reader.new }
     {
         let first = PlacedWord::next(reader)?;
@@ -59,7 +60,7 @@ impl Draft {
         section: Section,
         reader: &mut Reader,
     ) -> Result<Option<Section>, SheetFault>
-        requires { Ready section (items_of self.old) }
+        requires ready { Ready section (items_of self.old) }
         ensures { Reads (Stepped section (items_of self.old) (items_of self.new)) reader.old result reader.new }
     {
         if let Section::LBlocks(lacking) = section {

@@ -8,5 +8,5 @@ returns c =
     let s = c.in_ok-second.ensures in
     let g = c.in_ok-cost_word.ensures in record {
       same = s.same ∙ f.same;
-      read = pair_went _ _ _ _ _ _ _ _ _ _ _ c.requires (ap (λ r. r.now) f.same) f.read c.in_ok-lblock_word.ensures s.read g.0 g.2 c.past_lblock.ensures;
+      read = pair_went _ _ _ _ _ _ _ _ _ _ _ c.requires.ready (ap (λ r. r.now) f.same) f.read c.in_ok-lblock_word.ensures s.read g.0 g.2 c.past_lblock.ensures;
     }
