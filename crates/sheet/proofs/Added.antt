@@ -88,11 +88,11 @@ module _ (S : Sheet) where
   all_parts = sym (joined_kept (used S) (conflicts_of S) (below S.sets))
 
   -- what a traversal that is done tells of a node
-  pub seen_to : (r : Reach) → Reached S r.set r.from r → (v : Node) → seen_edge r v ≡ edge_to S r.set r.from v
-  seen_to r h v = ap (λ b. cond b (record { set = r.set; from = r.from; to = v } ∷ []) []) (h.found v)
+  pub seen_to : (r : Reach) → Reached S r.source r → (v : Node) → seen_edge r v ≡ edge_to S r.source.set r.source.from v
+  seen_to r h v = ap (λ b. cond b (record { set = r.source.set; from = r.source.from; to = v } ∷ []) []) (h.found v)
 
-  pub seen_at : (r : Reach) → Reached S r.set r.from r → (k : ℕ) → (lblock S k).set ≡ r.set → seen_edge r (at k) ≡ edge_at S r.set r.from k
-  seen_at r h k own = seen_to r h (at k) ∙ sym (cond-true (in_set S r.set (at k)) _ [] (eq-eqb _ r.set own))
+  pub seen_at : (r : Reach) → Reached S r.source r → (k : ℕ) → (lblock S k).set ≡ r.source.set → seen_edge r (at k) ≡ edge_at S r.source.set r.source.from k
+  seen_at r h k own = seen_to r h (at k) ∙ sym (cond-true (in_set S r.source.set (at k)) _ [] (eq-eqb _ r.source.set own))
 
   pub other_at : (s k : ℕ) (u : Node) → (lblock S k).set ≢ s → edge_at S s u k ≡ []
   other_at s k u other = cond-false (in_set S s (at k)) _ [] (ne_eqb _ s other)

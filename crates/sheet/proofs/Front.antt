@@ -1,5 +1,5 @@
 -- The front of a search: how it grows, and what it has seen when it is done. Assumes nothing.
-use Rattle.std.proofs.Common.{◌≡◌, ℕ, suc, ◌+◌, ◌<◌, ◌≤◌, Bool, true, false, cond, not, ◌⊎◌, List, [], ◌∷◌, ◌++◌, length, get_or, set, count_by, sym, refl, ap, ◌∙◌, subst, subst₂, inl, inr, ⊎_elim, arith, length-append, length-set}
+use Rattle.std.proofs.Common.{◌≡◌, ℕ, suc, ◌+◌, ◌<◌, ◌≤◌, Bool, true, false, cond, not, ◌⊎◌, List, [], ◌∷◌, ◌++◌, length, get_or, set, count_by, sym, refl, ap, ◌∙◌, subst, inl, inr, ⊎_elim, arith, length-append, length-set}
 use Rattle.std.specs.List.{ContainsAt as Has, AllByRecursion}
 use Rattle.std.proofs.lemmas.List.{get_or-set_same, get_or-set_other, get_or_append_left, append-nil}
 use Rattle.std.proofs.ByRecursion.{All-append, All-weaker, has_append_left, has_append_right, has_push}
@@ -7,7 +7,7 @@ use Rattle.std.proofs.lemmas.List.Sums.{sum_by-set}
 use Rattle.std.proofs.lemmas.Bool.{cases_eq, both_ways, false≢true}
 use Rattle.sheet.specs.Sheet.{Sheet}
 use Rattle.sheet.specs.Conflict.{Node, START, at, END, Arrow, Leads, one, more, in_set}
-use Rattle.sheet.specs.Traversal.{flagged, Front, Going, On, saw}
+use Rattle.sheet.specs.Traversal.{flagged, Front, Going, Sees, On, saw}
 use Rattle.sheet.specs.ConflictList.{conflicting}
 use Rattle.sheet.proofs.Reach.{leaves, reaches, leads_sound, conflicting_complete}
 use Rattle.sheet.specs.declared.traversal.reach.Reach.{Reach}
@@ -34,15 +34,14 @@ count_set seen k l f =
 pub on_trans : {S : Sheet} {r r' r'' : Reach} → On S r r' → On S r' r'' → On S r r''
 on_trans p q = record {
   going = q.going;
-  same_set = q.same_set ∙ p.same_set;
-  same_from = q.same_from ∙ p.same_from;
+  same_source = q.same_source ∙ p.same_source;
   kept = λ v t. q.kept v (p.kept v t);
   longer = omega (arith, p.longer, q.longer);
   queue_kept = λ i l. q.queue_kept i (omega (arith, p.longer)) ∙ p.queue_kept i l;
 }
 
-pub on_leads : {S : Sheet} {r r' : Reach} {y : Node} → On S r r' → Leads S r.set r.from y → Leads S r'.set r'.from y
-on_leads {S} {y = y} o l = subst₂ (λ s u. Leads S s u y) (sym o.same_set) (sym o.same_from) l
+pub on_leads : {S : Sheet} {r r' : Reach} {y : Node} → On S r r' → Sees S r y → Sees S r' y
+on_leads {S} {y = y} o l = subst (λ a. Leads S a.set a.from y) (sym o.same_source) l
 
 module _ (S : Sheet) (s : ℕ) (u : Node) (seen : List Bool) (ended : Bool) (queue : List ℕ) (k : ℕ) (f : Front S s u seen ended queue)
     (known : k < length S.lblocks) (leads : Leads S s u (at k)) (new : get_or seen k false ≡ false) where
@@ -86,41 +85,38 @@ module _ (S : Sheet) (s : ℕ) (u : Node) (seen : List Bool) (ended : Bool) (que
   flags_kept END t = t
 
 -- l-block k is seen, and the search does not go on from it, or does
-module _ (S : Sheet) (r r' : Reach) (k : ℕ) (g : Going S r) (known : k < length S.lblocks) (leads : Leads S r.set r.from (at k)) (new : saw r (at k) ≡ false)
-    (set_is : r'.set ≡ r.set) (from_is : r'.from ≡ r.from) (seen_is : r'.seen.list.items ≡ set r.seen.list.items k true) (ended_is : r'.ended ≡ r.ended) where
-  pub on_ends : in_set S r.set (at k) ≡ true → r'.queue.list.items ≡ r.queue.list.items → On S r r'
+module _ (S : Sheet) (r r' : Reach) (k : ℕ) (g : Going S r) (known : k < length S.lblocks) (leads : Sees S r (at k)) (new : saw r (at k) ≡ false)
+    (source_is : r'.source ≡ r.source) (seen_is : r'.seen.list.items ≡ set r.seen.list.items k true) (ended_is : r'.ended ≡ r.ended) where
+  pub on_ends : in_set S r.source.set (at k) ≡ true → r'.queue.list.items ≡ r.queue.list.items → On S r r'
   on_ends out queue_is = record {
-    going = rw (set_is, from_is, seen_is, ended_is, queue_is) (front_ends S r.set r.from r.seen.list.items r.ended r.queue.list.items k g known leads new out);
-    same_set = set_is;
-    same_from = from_is;
-    kept = λ v t. rw (seen_is, ended_is) (flags_kept S r.set r.from r.seen.list.items r.ended r.queue.list.items k g known leads new v t);
+    going = rw (source_is, seen_is, ended_is, queue_is) (front_ends S r.source.set r.source.from r.seen.list.items r.ended r.queue.list.items k g known leads new out);
+    same_source = source_is;
+    kept = λ v t. rw (seen_is, ended_is) (flags_kept S r.source.set r.source.from r.seen.list.items r.ended r.queue.list.items k g known leads new v t);
     longer = omega (arith, ap length queue_is);
     queue_kept = λ i l. rw queue_is refl;
   }
 
-  pub on_goes_on : in_set S r.set (at k) ≡ false → r'.queue.list.items ≡ r.queue.list.items ++ (k ∷ []) → On S r r'
+  pub on_goes_on : in_set S r.source.set (at k) ≡ false → r'.queue.list.items ≡ r.queue.list.items ++ (k ∷ []) → On S r r'
   on_goes_on out queue_is = record {
-    going = rw (set_is, from_is, seen_is, ended_is, queue_is) (front_goes_on S r.set r.from r.seen.list.items r.ended r.queue.list.items k g known leads new out);
-    same_set = set_is;
-    same_from = from_is;
-    kept = λ v t. rw (seen_is, ended_is) (flags_kept S r.set r.from r.seen.list.items r.ended r.queue.list.items k g known leads new v t);
+    going = rw (source_is, seen_is, ended_is, queue_is) (front_goes_on S r.source.set r.source.from r.seen.list.items r.ended r.queue.list.items k g known leads new out);
+    same_source = source_is;
+    kept = λ v t. rw (seen_is, ended_is) (flags_kept S r.source.set r.source.from r.seen.list.items r.ended r.queue.list.items k g known leads new v t);
     longer = omega (arith, ap length queue_is, length-append r.queue.list.items (k ∷ []));
     queue_kept = λ i l. rw queue_is (get_or_append_left r.queue.list.items (k ∷ []) 0 i l);
   }
 
 -- END is seen
-pub on_ended : (S : Sheet) (r r' : Reach) → Going S r → Leads S r.set r.from END → r'.set ≡ r.set → r'.from ≡ r.from
+pub on_ended : (S : Sheet) (r r' : Reach) → Going S r → Sees S r END → r'.source ≡ r.source
     → r'.seen.list.items ≡ r.seen.list.items → r'.ended ≡ true → r'.queue.list.items ≡ r.queue.list.items → On S r r'
-on_ended S r r' g leads set_is from_is seen_is ended_is queue_is = record {
-  going = rw (set_is, from_is, seen_is, ended_is, queue_is) (record { sized = g.sized; sound = sound; queued = g.queued; inner = g.inner; room = g.room });
-  same_set = set_is;
-  same_from = from_is;
+on_ended S r r' g leads source_is seen_is ended_is queue_is = record {
+  going = rw (source_is, seen_is, ended_is, queue_is) (record { sized = g.sized; sound = sound; queued = g.queued; inner = g.inner; room = g.room });
+  same_source = source_is;
   kept = λ v t. rw (seen_is, ended_is) (kept v t);
   longer = omega (arith, ap length queue_is);
   queue_kept = λ i l. rw queue_is refl;
 }
   where
-    sound : (v : Node) → flagged r.seen.list.items true v ≡ true → Leads S r.set r.from v
+    sound : (v : Node) → flagged r.seen.list.items true v ≡ true → Sees S r v
     sound START t = absurd (false≢true t)
     sound (at j) t = g.sound (at j) t
     sound END t = leads

@@ -107,11 +107,11 @@ placed P ws i w e f = subst (λ a. P (kind (get_or ws i 0)) (payload (get_or ws 
 pub pair_went : (I J : Items) (n : ℕ) (ws vs : List ℕ) (i j k : ℕ) (v w : PlacedWord) (s : Section) → Ready (LBlocks n) I → vs ≡ ws
     → TakesPlaced ws i (Ok v) j → first_failing (lblock_checks I v.kind v.payload.0 v.at) ≡ none
     → TakesPlaced vs j (Ok w) k → first_failing (cost_checks w.kind w.at) ≡ none
-    → J ≡ pair_lblock I v.payload.0 w.payload.0 → s ≡ section_past_lblock n → Stepped ws (LBlocks n) I i (Ok (Some s)) J k
+    → J ≡ pair_lblock I v.payload.0 w.payload.0 → s ≡ section_past_lblock n → Stepped (LBlocks n) I J ws i (Ok (Some s)) k
 pair_went I J n ws vs i j k v w s r same t f u g e q =
     let x : TakesPlaced ws (i + 1) (Ok w) k = subst (λ j. TakesPlaced ws j (Ok w) k) t.2 (subst (λ vs. TakesPlaced vs j (Ok w) k) same u) in
     let fits : J ≡ pair_lblock I (payload (get_or ws i 0)) (payload (get_or ws (i + 1) 0)) = e ∙ ap₂ (pair_lblock I) t.1.1 x.1.1 in
-    subst (λ s. Stepped ws (LBlocks n) I i (Ok (Some s)) J k) (sym q) (
+    subst (λ s. Stepped (LBlocks n) I J ws i (Ok (Some s)) k) (sym q) (
       subst (Goes ws (state_of (LBlocks n) I) i (state_of (section_past_lblock n) J)) (sym x.2)
           (two_words I n ws i J x.0 (placed (λ k p a. first_failing (lblock_checks I k p a) ≡ none) ws i v t.1 f) (placed (λ k p a. first_failing (cost_checks k a) ≡ none) ws (i + 1) w x.1 g) fits),
       ready_past I n J (set_field v.payload.0) (tag_field v.payload.0) w.payload.0 r e,

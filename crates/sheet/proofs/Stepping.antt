@@ -25,15 +25,15 @@ use Rattle.sheet.proofs.ReadSteps.{sheet_refused, sheet_goes_on, sheet_ends}
 
 -- one word
 module _ (ws : List ℕ) (s : Section) (I J : Items) (i : ℕ) (l : i < length ws) (ready : Ready s I) where
-  turned : (r : Result (Maybe Section) SheetFault) → Turn s I (kind (get_or ws i 0)) (payload (get_or ws i 0)) i (drop (i + 1) ws) r J → Stepped ws s I i r J (i + 1)
+  turned : (r : Result (Maybe Section) SheetFault) → Turn s I (kind (get_or ws i 0)) (payload (get_or ws i 0)) i (drop (i + 1) ws) r J → Stepped s I J ws i r (i + 1)
   turned (Ok (Some t)) f = (subst (λ z. Goes ws (state_of s I) i z (i + 1)) f.2 (takes stays l f.0 f.1), f.3, omega arith, omega arith)
   turned (Ok None) f = (l, f.0, f.1, f.2)
   turned (Err e) f = sheet_refused ws i l (state_of s I) (sheet_refusal e) f
 
 pub word_steps : (ws : List ℕ) (s : Section) (I J : Items) (i : ℕ) (ready : Ready s I) (vs : List ℕ) (r : Result (Maybe Section) SheetFault) (w : PlacedWord) (j : ℕ) → vs ≡ ws → TakesPlaced ws i (Ok w) j
-    → Turn s I w.kind w.payload.0 w.at (drop (w.at + 1) vs) r J → Stepped ws s I i r J j
+    → Turn s I w.kind w.payload.0 w.at (drop (w.at + 1) vs) r J → Stepped s I J ws i r j
 word_steps ws s I J i ready vs r w j v f t =
-    subst (Stepped ws s I i r J) (sym f.2)
+    subst (Stepped s I J ws i r) (sym f.2)
     (turned ws s I J i f.0 ready r (placed (λ k p a. Turn s I k p a (drop (a + 1) ws) r J) ws i w f.1 (subst (λ vs. Turn s I w.kind w.payload.0 w.at (drop (w.at + 1) vs) r J) v t)))
 
 pub none_lacks : (s : Section) → ((n : ℕ) → s ≡ LBlocks n → ⊥) → lacking_in s ≡ 0
@@ -99,14 +99,14 @@ loop_begins ws I a e z = (
 )
 
 module _ (ws vs : List ℕ) (s : Section) (I J : Items) (i j : ℕ) (g : Goes ws start 0 (state_of s I) i) (v : vs ≡ ws) where
-  pub loop_again : (o : Maybe Section) (t : Section) → o ≡ Some t → Stepped vs s I i (Ok o) J j → Goes ws start 0 (state_of t J) j × Ready t J
-  loop_again o t q f = let k = subst (λ vs. Stepped vs s I i (Ok (Some t)) J j) v (subst (λ o. Stepped vs s I i (Ok o) J j) q f) in (goes_on ws start 0 (state_of s I) i g (state_of t J) j k.0, k.1)
+  pub loop_again : (o : Maybe Section) (t : Section) → o ≡ Some t → Stepped s I J vs i (Ok o) j → Goes ws start 0 (state_of t J) j × Ready t J
+  loop_again o t q f = let k = subst (λ vs. Stepped s I J vs i (Ok (Some t)) j) v (subst (λ o. Stepped s I J vs i (Ok o) j) q f) in (goes_on ws start 0 (state_of s I) i g (state_of t J) j k.0, k.1)
 
-  pub loop_ends : (o : Maybe Section) → o ≡ None → Ready s I → Stepped vs s I i (Ok o) J j → (read_sheet ws ≡ finished (sheet_of J)) × (PartsFit (sheet_of J) × Laid J.blocks J.lblocks 0)
+  pub loop_ends : (o : Maybe Section) → o ≡ None → Ready s I → Stepped s I J vs i (Ok o) j → (read_sheet ws ≡ finished (sheet_of J)) × (PartsFit (sheet_of J) × Laid J.blocks J.lblocks 0)
   loop_ends o q r f =
-      let k = subst (λ vs. Stepped vs s I i (Ok None) J j) v (subst (λ o. Stepped vs s I i (Ok o) J j) q f) in
+      let k = subst (λ vs. Stepped s I J vs i (Ok None) j) v (subst (λ o. Stepped s I J vs i (Ok o) j) q f) in
       subst (λ J. (read_sheet ws ≡ finished (sheet_of J)) × (PartsFit (sheet_of J) × Laid J.blocks J.lblocks 0)) (sym k.3)
       (read_finished ws s I i g r k.0 k.1 k.2, (read_parts ws s I i g r k.0 k.1 k.2, read_laid ws s I i g r k.0 k.1 k.2))
 
-  pub loop_breaks : (x : SheetFault) → Stepped vs s I i (Err x) J j → read_sheet ws ≡ refused (sheet_refusal x)
-  loop_breaks x f = read_refused ws s I i x g (subst (λ vs. Stepped vs s I i (Err x) J j) v f)
+  pub loop_breaks : (x : SheetFault) → Stepped s I J vs i (Err x) j → read_sheet ws ≡ refused (sheet_refusal x)
+  loop_breaks x f = read_refused ws s I i x g (subst (λ vs. Stepped s I J vs i (Err x) j) v f)

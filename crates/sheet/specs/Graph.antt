@@ -1,6 +1,7 @@
 -- The blocks, l-blocks and edges of a sheet as lists of their own, and links between edges from the same block. Assumes nothing.
 use Rattle.std.specs.Prelude.{◌≡◌, ℕ, ◌+◌, ◌<◌, ◌≤◌, ◌≢◌, List, [], length, get_or, slice_index_or, Option, None, MatchOption}
 pub use Rattle.sheet.specs.BlockTable.{Block, no_block, first_of, size_of, Holds, Table}
+use Rattle.sheet.specs.declared.limits.TheConstants.{MOST_BLOCKS, MOST_LBLOCKS, MOST_EDGES}
 use Rattle.sheet.specs.Sheet.{Sheet, LBlock, Edge, WellFormed}
 
 -- the sheet with these parts, and no loops and facts
@@ -33,7 +34,7 @@ pub record Linked (es : List Edge) (blocks k : ℕ) (latest before : List (Optio
 pub record Ready (sets : ℕ) (bs : List Block) (ls : List LBlock) (es : List Edge) (latest before : List (Option ℕ)) : Type 0 where
   pub formed : WellFormed (graph_of sets (length bs) ls es)
   pub table : Table (graph_of sets (length bs) ls es) (first_of bs) (size_of bs)
-  pub few_blocks : length bs ≤ 128
-  pub few_lblocks : length ls ≤ 512
-  pub few_edges : length es ≤ 512
+  pub few_blocks : length bs ≤ MOST_BLOCKS
+  pub few_lblocks : length ls ≤ MOST_LBLOCKS
+  pub few_edges : length es ≤ MOST_EDGES
   pub linked : Linked es (length bs) (length es) latest before

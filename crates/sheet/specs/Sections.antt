@@ -89,8 +89,8 @@ abbrev pub section_past_lblock : ℕ → Section
 section_past_lblock n = cond (nat_lt 1 n) (LBlocks (n - 1)) Blocks
 
 -- Reading on from place i: the words lead to another state, or END is read and the items stay, or the fault is the answer.
-abbrev pub Stepped : List ℕ → Section → Items → ℕ → Result (Maybe Section) SheetFault → Items → ℕ → Type 0
-Stepped ws s I i (Ok (Some t)) J j = Goes ws (state_of s I) i (state_of t J) j × Ready t J × (i < j) × (j ≤ length ws)
-Stepped ws s I i (Ok None) J j =
+abbrev pub Stepped : Section → (I J : Items) → List ℕ → ℕ → Result (Maybe Section) SheetFault → ℕ → Type 0
+Stepped s I J ws i (Ok (Some t)) j = Goes ws (state_of s I) i (state_of t J) j × Ready t J × (i < j) × (j ≤ length ws)
+Stepped s I J ws i (Ok None) j =
     (i < length ws) × (first_failing (demands (state_of s I) (slice_index ws i) i (drop (i + 1) ws)) ≡ none) × (same_kind (kind (slice_index ws i)) END ≡ true) × (J ≡ I)
-Stepped ws s I i (Err e) J j = read_from (state_of s I) (drop i ws) i ≡ refused (sheet_refusal e)
+Stepped s I J ws i (Err e) j = read_from (state_of s I) (drop i ws) i ≡ refused (sheet_refusal e)

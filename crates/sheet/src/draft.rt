@@ -15,7 +15,6 @@ pub struct Draft {
 }
 
 mod checks;
-mod conflicts;
 mod items;
 mod placed;
 mod read;

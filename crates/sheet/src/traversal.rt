@@ -3,15 +3,15 @@ mod graph;
 pub mod list;
 mod reach;
 
-ghost use Rattle.std.specs.Prelude.{◌≤◌, length};
-ghost use Rattle.sheet.specs.Sheet.{WellFormed};
-ghost use Rattle.sheet.specs.Graph.{graph_of, first_of, size_of, Table};
-ghost use Rattle.sheet.specs.Reads.{Found};
+ghost use Rattle.sheet.specs.Drafts.{sheet_of};
+ghost use Rattle.sheet.specs.Reads.{Readable, Found};
+ghost use Rattle.sheet.specs.Tried.{items_of};
 
 use crate::bounded::BoundedVec;
+use crate::draft::Draft;
 use crate::fault::SheetFault;
 use crate::limits::{MOST_BLOCKS, MOST_EDGES};
-use crate::parts::{Block, ConflictList, Edge, LBlock};
+use crate::parts::ConflictList;
 use crate::traversal::graph::{Graph, link};
 use crate::traversal::reach::Reach;
 use std::alloc::{AllocError, Global};
@@ -34,27 +34,18 @@ impl Traversal {
         })
     }
 
-    // The conflict edges of the blocks, l-blocks and edges go into `out`. Where they pass 4,096, the set with which they do is answered.
-    pub(crate) fn find(
-        &mut self,
-        sets: usize,
-        blocks: &[Block],
-        lblocks: &[LBlock],
-        edges: &[Edge],
-        out: &mut ConflictList,
-    ) -> Result<(), SheetFault>
-        requires formed { WellFormed (graph_of sets (length blocks.now) lblocks.now edges.now) }
-        requires table { Table (graph_of sets (length blocks.now) lblocks.now edges.now) (first_of blocks.now) (size_of blocks.now) }
-        requires blocks { length blocks.now ≤ 128 }
-        requires lblocks { length lblocks.now ≤ 512 }
-        requires edges { length edges.now ≤ 512 }
-        ensures { Found (graph_of sets (length blocks.now) lblocks.now edges.now) result out.new.list.items }
+    // The conflict edges of what was read go into `out`. Where they pass 4,096, the set with which they do is answered.
+    pub(crate) fn find(&mut self, draft: &Draft, out: &mut ConflictList) -> Result<(), SheetFault>
+        requires { Readable (items_of draft.now) }
+        ensures { Found (sheet_of (items_of draft.now)) result out.new.list.items }
     {
+        let blocks = draft.blocks.as_slice();
+        let edges = draft.edges.as_slice();
         link(blocks.len(), edges, &mut self.latest, &mut self.before);
         let g = Graph {
-            sets,
+            sets: draft.sets,
             blocks,
-            lblocks,
+            lblocks: draft.lblocks.as_slice(),
             edges,
             latest: self.latest.as_slice(),
             before: self.before.as_slice(),

@@ -27,7 +27,7 @@ impl<'a> Reader<'a> {
         place
     }
 
-    // Kept: `same` speaks of the reader before and after a call, which no invariant of one value can say.
+    // Kept: these are clauses of public calls, and speak of the reader before and after.
 
     // The next word, or that the list has ended.
     pub fn next(&mut self) -> Result<Word, WordFault>
@@ -61,10 +61,7 @@ impl<'a> Reader<'a> {
         ensures left { result.now ≡ drop self.now.at self.now.words.now }
         ensures fits { self.now.at + length result.now < 2 ^ 64 }
     {
-        if self.at >= self.words.len() {
-            return &[];
-        }
-        &self.words[self.at..]
+        self.words.get(self.at..).unwrap_or(&[])
     }
 
     // Passes over so many words, or over all that are left.

@@ -4,6 +4,7 @@ ghost use Rattle.std.proofs.Math.Option.{none};
 ghost use Rattle.words.specs.Words.{upper};
 ghost use Rattle.sheet.specs.declared.section.Section.TheVariants.{First, LBlocks, Edges, Loop as InLoop, Facts};
 ghost use Rattle.sheet.specs.Kinds.{HEAD, BLOCK, EDGE};
+ghost use Rattle.sheet.specs.declared.limits.TheConstants.{MOST_LBLOCKS};
 ghost use Rattle.sheet.specs.ReadSheet.{checks};
 ghost use Rattle.sheet.specs.Drafts.{sheet_of, add_head, add_block, add_edge, add_loop, add_back, add_fact};
 ghost use Rattle.sheet.specs.Tried.{Demanded, Added, Tried, items_of, header_of, number_in, pair_lblock, lblock_checks, cost_checks, loop_checks, back_checks, fact_checks, end_checks};
@@ -164,7 +165,7 @@ impl Draft {
 
     // Its second word.
     pub(crate) fn cost_word(&mut self, first: Payload, word: PlacedWord) -> Result<(), SheetFault>
-        requires { length self.old.lblocks.list.items < 512 }
+        requires { length self.old.lblocks.list.items < MOST_LBLOCKS }
         ensures { Added (cost_checks word.kind word.at) (pair_lblock (items_of self.old) first.0 word.payload.0) tt result (items_of self.new) }
     {
         demand(word.kind == Kind::Cost, WordFault::NotDue(word.at))?;

@@ -1,6 +1,7 @@
 // One word after another: whether its kind is due, its checks, and the section that it leads to.
 ghost use Rattle.std.specs.Prelude.{◌≡◌, ◌+◌, drop};
 ghost use Rattle.sheet.specs.declared.section.Section.TheVariants.{LBlocks};
+ghost use Rattle.sheet.specs.Placed.{Reads};
 ghost use Rattle.sheet.specs.Sections.{Ready, Turn, Stepped, lacking_in};
 ghost use Rattle.sheet.specs.Tried.{items_of};
 
@@ -13,7 +14,7 @@ use words::reader::Reader;
 use words::refusal::WordFault;
 use words::word::Kind;
 
-// Kept: `same` speaks of the reader before and after a call, which no invariant of one value can say.
+// Kept: `Ready` ties the draft to the section that is being read, and a draft between two lists is in no section.
 impl Draft {
     // A word that is not of an l-block.
     fn item(
@@ -43,9 +44,8 @@ impl Draft {
 
     // An l-block, which is two words.
     fn lblock(&mut self, lacking: usize, reader: &mut Reader) -> Result<Option<Section>, SheetFault>
-        requires { Ready (LBlocks lacking) (items_of self.old) }
-        ensures same { reader.new.words ≡ reader.old.words }
-        ensures stepped { Stepped reader.old.words.now (LBlocks lacking) (items_of self.old) reader.old.at result (items_of self.new) reader.new.at }
+        requires ready { Ready (LBlocks lacking) (items_of self.old) }
+        ensures { Reads (Stepped (LBlocks lacking) (items_of self.old) (items_of self.new)) reader.old result reader.new }
     {
         let first = PlacedWord::next(reader)?;
         self.lblock_word(first)?;
@@ -60,9 +60,8 @@ impl Draft {
         section: Section,
         reader: &mut Reader,
     ) -> Result<Option<Section>, SheetFault>
-        requires { Ready section (items_of self.old) }
-        ensures same { reader.new.words ≡ reader.old.words }
-        ensures stepped { Stepped reader.old.words.now section (items_of self.old) reader.old.at result (items_of self.new) reader.new.at }
+        requires ready { Ready section (items_of self.old) }
+        ensures { Reads (Stepped section (items_of self.old) (items_of self.new)) reader.old result reader.new }
     {
         if let Section::LBlocks(lacking) = section {
             return self.lblock(lacking, reader);

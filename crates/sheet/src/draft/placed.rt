@@ -1,6 +1,5 @@
 // A word at its place in the list.
-ghost use Rattle.std.specs.Prelude.{◌≡◌};
-ghost use Rattle.sheet.specs.Placed.{TakesPlaced};
+ghost use Rattle.sheet.specs.Placed.{Reads, TakesPlaced};
 
 use words::reader::Reader;
 use words::refusal::WordFault;
@@ -13,12 +12,10 @@ pub(crate) struct PlacedWord {
     pub(crate) at: usize,
 }
 
-// Kept: `same` as at `Reader`.
 impl PlacedWord {
     // The next word, or that the list has ended.
     pub(crate) fn next(reader: &mut Reader) -> Result<PlacedWord, WordFault>
-        ensures same { reader.new.words ≡ reader.old.words }
-        ensures takes { TakesPlaced reader.old.words.now reader.old.at result reader.new.at }
+        ensures { Reads TakesPlaced reader.old result reader.new }
     {
         let at = reader.place();
         let word = reader.next()?;

@@ -44,8 +44,7 @@ impl SheetRoom {
         ensures laws { ReaderLaws }
     {
         self.draft.read(words)?;
-        self.draft
-            .find_conflicts(&mut self.traversal, &mut self.conflicts)?;
+        self.traversal.find(&self.draft, &mut self.conflicts)?;
         self.sheet.replace(&mut self.draft, &mut self.conflicts);
         Ok(())
     }

@@ -2,6 +2,7 @@ ghost use Rattle.std.specs.Prelude.{◌<◌, ◌≤◌, length};
 ghost use Rattle.std.specs.List.{AllByRecursion};
 ghost use Rattle.std.proofs.Props.{props};
 ghost use Rattle.sheet.specs.Graph.{Linked, Ready};
+ghost use Rattle.sheet.specs.declared.limits.TheConstants.{MOST_BLOCKS, MOST_EDGES};
 
 use crate::bounded::BoundedVec;
 use crate::limits::{MOST_BLOCKS, MOST_EDGES};
@@ -28,8 +29,8 @@ pub(crate) fn link(
     before: &mut BoundedVec<Option<usize>, MOST_EDGES>,
 )
     requires from { AllByRecursion (λ e. e.from < blocks) edges.now }
-    requires blocks { blocks ≤ 128 }
-    requires edges { length edges.now ≤ 512 }
+    requires blocks { blocks ≤ MOST_BLOCKS }
+    requires edges { length edges.now ≤ MOST_EDGES }
     ensures { Linked edges.now blocks (length edges.now) latest.new.list.items before.new.list.items }
 {
     latest.refill(blocks, None);

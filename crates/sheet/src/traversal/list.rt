@@ -3,12 +3,12 @@ ghost use Rattle.std.specs.Prelude.{◌≡◌, ◌<◌, [], ◌∷◌, length, n
 ghost use Rattle.words.specs.Lists.{any};
 ghost use Rattle.sheet.specs.ConflictList.{conflicts_from, conflicts_of};
 ghost use Rattle.sheet.specs.Reads.{Found};
-ghost use Rattle.sheet.specs.Traversal.{sheet_of, Source, Reached, HasFlag, Added, saw, seen_edge};
+ghost use Rattle.sheet.specs.Traversal.{sheet_of, Starts, Reached, HasFlag, Added, saw, seen_edge};
 
 use crate::fault::SheetFault;
 use crate::parts::{Conflict, ConflictList, LBlock, Node};
 use crate::traversal::graph::Graph;
-use crate::traversal::reach::Reach;
+use crate::traversal::reach::{Reach, Source};
 
 impl Reach {
     // Whether the traversal saw a node.
@@ -26,14 +26,14 @@ impl Reach {
     // Lists the conflict edge to a node, if the traversal saw it.
     fn list_to(&self, to: Node, out: &mut ConflictList) -> Result<(), SheetFault>
         requires { HasFlag self.now to }
-        ensures { Added self.now.set out.old.list.items (seen_edge self.now to) result out.new.list.items }
+        ensures { Added self.now.source.set out.old.list.items (seen_edge self.now to) result out.new.list.items }
     {
         if self.saw(to) {
             put(
                 out,
                 Conflict {
-                    set: self.set,
-                    from: self.from,
+                    set: self.source.set,
+                    from: self.source.from,
                     to,
                 },
             )?;
@@ -41,31 +41,30 @@ impl Reach {
         Ok(())
     }
 
-    // Lists the conflict edges from `from`.
+    // Lists the conflict edges from the source.
     fn list(&self, g: &Graph, out: &mut ConflictList) -> Result<(), SheetFault>
-        requires reached { Reached (sheet_of g.now) self.now.set self.now.from self.now }
-        ensures { Added self.now.set out.old.list.items (conflicts_from (sheet_of g.now) self.now.set self.now.from) result out.new.list.items }
+        requires reached { Reached (sheet_of g.now) self.now.source self.now }
+        ensures { Added self.now.source.set out.old.list.items (conflicts_from (sheet_of g.now) self.now.source.set self.now.source.from) result out.new.list.items }
     {
         for (v, b) in g.lblocks.iter().enumerate() {
-            if b.set == self.set {
+            if b.set == self.source.set {
                 self.list_to(Node::At(v), out)?;
             }
         }
         self.list_to(Node::End, out)
     }
 
-    // Lists the conflict edges of a set from a node.
+    // Lists the conflict edges from a source.
     fn list_from(
         &mut self,
         g: &Graph,
-        set: usize,
-        from: Node,
+        source: Source,
         out: &mut ConflictList,
     ) -> Result<(), SheetFault>
-        requires source { Source (sheet_of g.now) from }
-        ensures { Added set out.old.list.items (conflicts_from (sheet_of g.now) set from) result out.new.list.items }
+        requires starts { Starts (sheet_of g.now) source.from }
+        ensures { Added source.set out.old.list.items (conflicts_from (sheet_of g.now) source.set source.from) result out.new.list.items }
     {
-        self.run(g, set, from);
+        self.run(g, source);
         self.list(g, out)
     }
 
@@ -73,10 +72,12 @@ impl Reach {
     fn list_set(&mut self, g: &Graph, set: usize, out: &mut ConflictList) -> Result<(), SheetFault>
         ensures { Added set out.old.list.items (conflicts_of (sheet_of g.now) set) result out.new.list.items }
     {
-        self.list_from(g, set, Node::Start, out)?;
+        let from = Node::Start;
+        self.list_from(g, Source { set, from }, out)?;
         for (v, b) in g.lblocks.iter().enumerate() {
             if b.set == set {
-                self.list_from(g, set, Node::At(v), out)?;
+                let from = Node::At(v);
+                self.list_from(g, Source { set, from }, out)?;
             }
         }
         Ok(())

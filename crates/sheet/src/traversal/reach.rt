@@ -1,9 +1,9 @@
 ghost use Rattle.std.specs.Prelude.{◌≡◌, ℕ, ◌+◌, ◌<◌, ◌≤◌, true, length};
 ghost use Rattle.std.specs.List.{ContainsAt as Has};
 ghost use Rattle.sheet.specs.Walk.{edge};
-ghost use Rattle.sheet.specs.Conflict.{at, Arrow, Leads};
+ghost use Rattle.sheet.specs.Conflict.{at, Arrow};
 ghost use Rattle.sheet.specs.Graph.{first_of};
-ghost use Rattle.sheet.specs.Traversal.{sheet_of, Going, On, saw, Source, Reached};
+ghost use Rattle.sheet.specs.Traversal.{sheet_of, Going, Sees, On, saw, Starts, Reached};
 
 use crate::bounded::BoundedVec;
 use crate::limits::MOST_LBLOCKS;
@@ -11,24 +11,32 @@ use crate::parts::Node;
 use crate::traversal::graph::Graph;
 use std::alloc::{AllocError, Global};
 
+// The node that a traversal starts from, and the set that ends its paths.
+#[derive(Clone, Copy)]
+pub struct Source {
+    pub set: usize,
+    pub from: Node,
+}
+
 // A traversal of the fetch graph from one node, that does not go on after an l-block of the set. It flags the l-blocks that it saw, and END;
 // the l-blocks that it goes on from it queues.
 #[derive(Drop)]
 pub struct Reach {
-    pub set: usize,
-    pub from: Node,
+    pub source: Source,
+    // Kept: nothing is allocated while a sheet is read, so both lists are in reserved memory and l-blocks go by number.
     pub seen: BoundedVec<bool, MOST_LBLOCKS>,
     pub ended: bool,
-    // Kept: nothing is allocated while a sheet is read, so nodes go by number.
     pub queue: BoundedVec<usize, MOST_LBLOCKS>,
 }
 
-// Kept: `Going`, `On` and `Source` tie the traversal to the graph that it goes over; it does not hold the graph, since its memory outlives it.
+// Kept: `Going`, `Sees`, `On` and `Starts` tie a traversal to a graph that it cannot hold: its memory is reserved once, for many graphs.
 impl Reach {
     pub(crate) fn reserve(heap: Global) -> Result<Reach, AllocError> {
         Ok(Reach {
-            set: 0,
-            from: Node::Start,
+            source: Source {
+                set: 0,
+                from: Node::Start,
+            },
             seen: BoundedVec::reserve(heap)?,
             ended: false,
             queue: BoundedVec::reserve(heap)?,
@@ -39,7 +47,7 @@ impl Reach {
     fn visit(&mut self, g: &Graph, k: usize)
         requires going { Going (sheet_of g.now) self.old }
         requires known { k < length g.now.lblocks.now }
-        requires leads { Leads (sheet_of g.now) self.old.set self.old.from (at k) }
+        requires leads { Sees (sheet_of g.now) self.old (at k) }
         ensures on { On (sheet_of g.now) self.old self.new }
         ensures saw { saw self.new (at k) ≡ true }
     {
@@ -47,7 +55,7 @@ impl Reach {
             return;
         }
         self.seen.set(k, true);
-        if g.lblocks[k].set != self.set {
+        if g.lblocks[k].set != self.source.set {
             self.queue.push(k);
         }
     }
@@ -56,7 +64,7 @@ impl Reach {
     fn follow(&mut self, g: &Graph, b: usize)
         requires going { Going (sheet_of g.now) self.old }
         requires known { b < length g.now.blocks.now }
-        requires leads { (t : ℕ) → Has g.now.edges.now (edge b t) → Leads (sheet_of g.now) self.old.set self.old.from (at (first_of g.now.blocks.now t)) }
+        requires leads { (t : ℕ) → Has g.now.edges.now (edge b t) → Sees (sheet_of g.now) self.old (at (first_of g.now.blocks.now t)) }
         ensures on { On (sheet_of g.now) self.old self.new }
         ensures saw { (t : ℕ) → Has g.now.edges.now (edge b t) → saw self.new (at (first_of g.now.blocks.now t)) ≡ true }
     {
@@ -71,7 +79,7 @@ impl Reach {
     fn spread(&mut self, g: &Graph, x: usize)
         requires going { Going (sheet_of g.now) self.old }
         requires known { x < length g.now.lblocks.now }
-        requires leads { (y : Node) → Arrow (sheet_of g.now) (at x) y → Leads (sheet_of g.now) self.old.set self.old.from y }
+        requires leads { (y : Node) → Arrow (sheet_of g.now) (at x) y → Sees (sheet_of g.now) self.old y }
         ensures on { On (sheet_of g.now) self.old self.new }
         ensures saw { (y : Node) → Arrow (sheet_of g.now) (at x) y → saw self.new y ≡ true }
     {
@@ -87,40 +95,37 @@ impl Reach {
     }
 
     // Makes ready for a traversal.
-    fn reset(&mut self, g: &Graph, set: usize, from: Node)
+    fn reset(&mut self, g: &Graph, source: Source)
         ensures going { Going (sheet_of g.now) self.new }
-        ensures set { self.new.set ≡ set }
-        ensures from { self.new.from ≡ from }
+        ensures source { self.new.source ≡ source }
     {
-        self.set = set;
-        self.from = from;
+        self.source = source;
         self.queue.clear();
         self.seen.refill(g.lblocks.len(), false);
         self.ended = false;
     }
 
-    // Sees each node that an arrow leads to from `from`.
-    fn begin(&mut self, g: &Graph, set: usize, from: Node)
-        requires source { Source (sheet_of g.now) from }
+    // Sees each node that an arrow leads to from the source.
+    fn begin(&mut self, g: &Graph, source: Source)
+        requires starts { Starts (sheet_of g.now) source.from }
         ensures going { Going (sheet_of g.now) self.new }
-        ensures set { self.new.set ≡ set }
-        ensures from { self.new.from ≡ from }
-        ensures saw { (y : Node) → Arrow (sheet_of g.now) from y → saw self.new y ≡ true }
+        ensures source { self.new.source ≡ source }
+        ensures saw { (y : Node) → Arrow (sheet_of g.now) source.from y → saw self.new y ≡ true }
     {
-        self.reset(g, set, from);
-        match from {
+        self.reset(g, source);
+        match source.from {
             Node::Start => self.visit(g, g.blocks[0].first),
             Node::At(x) => self.spread(g, x),
             Node::End => (),
         }
     }
 
-    // Sees exactly the nodes that a path leads to from `from` with no l-block of the set strictly inside.
-    pub(crate) fn run(&mut self, g: &Graph, set: usize, from: Node)
-        requires source { Source (sheet_of g.now) from }
-        ensures { Reached (sheet_of g.now) set from self.new }
+    // Sees exactly the nodes that a path leads to from the source with no l-block of the set strictly inside.
+    pub(crate) fn run(&mut self, g: &Graph, source: Source)
+        requires starts { Starts (sheet_of g.now) source.from }
+        ensures { Reached (sheet_of g.now) source self.new }
     {
-        self.begin(g, set, from);
+        self.begin(g, source);
         // Kept: the queue grows while it is read, so no iterator can go over it.
         let mut head = 0;
         while let Some(&x) = self.queue.as_slice().get(head) {

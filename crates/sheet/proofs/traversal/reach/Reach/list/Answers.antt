@@ -12,8 +12,8 @@ pub returns-in_err-list_to : goal.returns-in_err-list_to
 returns-in_err-list_to c =
     let S = sheet_of c.args.g.now in
     let r = c.args.self.now in
-    let s = r.set in
-    let u = r.from in
+    let s = r.source.set in
+    let u = r.source.from in
     let v = c.loop-v.v in
     let xs = c.args.out.now.list.items in
     let ys = c.loop-v.out.list.items in
@@ -32,10 +32,10 @@ loop-v-preserved c =
     let r = c.args.self.now in
     let v = c.loop-v.v in
     let xs = c.loop-v.out.list.items in
-    rest_more (edge_at S r.set r.from) (length S.lblocks) _ xs c.if-b-self.out.list.items v c.loop-v-test.true c.loop-v.invariant
+    rest_more (edge_at S r.source.set r.source.from) (length S.lblocks) _ xs c.if-b-self.out.list.items v c.loop-v-test.true c.loop-v.invariant
     (elim c.if-b-self.branch [
       | then-b-self+in_ok-list_to w ↦ rw w.out-is (w.in_ok-list_to.ensures ∙ ap (λ a. xs ++ a) (seen_at S r c.requires.reached v w.if-b-self.true))
-      | else-b-self w ↦ rw (w.out-is, other_at S r.set v r.from w.if-b-self.false) (sym (append-nil xs))
+      | else-b-self w ↦ rw (w.out-is, other_at S r.source.set v r.source.from w.if-b-self.false) (sym (append-nil xs))
     ])
 
 pub returns : goal.returns
@@ -45,8 +45,8 @@ returns c =
     let n = length S.lblocks in
     let xs = c.args.out.now.list.items in
     let ys = c.loop-v.out.list.items in
-    let first = joined (edge_at S r.set r.from) (below n) in
-    subst (λ a. Added r.set xs a c.list_to-2.result c.list_to-2.new.out.list.items) (from_parts S r.set r.from)
-    (added_after r.set xs first (edge_to S r.set r.from END) ys c.list_to-2.result c.list_to-2.new.out.list.items
-    (rest_all (edge_at S r.set r.from) n (xs ++ first) ys c.loop-v.v c.loop-v-test.false c.loop-v.invariant)
-    (subst (λ a. Added r.set ys a c.list_to-2.result c.list_to-2.new.out.list.items) (seen_to S r c.requires.reached END) c.list_to-2.ensures))
+    let first = joined (edge_at S r.source.set r.source.from) (below n) in
+    subst (λ a. Added r.source.set xs a c.list_to-2.result c.list_to-2.new.out.list.items) (from_parts S r.source.set r.source.from)
+    (added_after r.source.set xs first (edge_to S r.source.set r.source.from END) ys c.list_to-2.result c.list_to-2.new.out.list.items
+    (rest_all (edge_at S r.source.set r.source.from) n (xs ++ first) ys c.loop-v.v c.loop-v-test.false c.loop-v.invariant)
+    (subst (λ a. Added r.source.set ys a c.list_to-2.result c.list_to-2.new.out.list.items) (seen_to S r c.requires.reached END) c.list_to-2.ensures))

@@ -81,12 +81,12 @@ returns-then-b-g-clause-on c =
     let S = sheet_of c.args.g.now in
     let on = c.follow.ensures.on in
     on_trans on (on_ended S c.follow.new.self _ on.going
-    (on_leads on (c.requires.leads _ (ending c.args.g.now c.args.x c.requires.known c.if-x-g.false c.if-b-g.true))) refl refl refl refl refl)
+    (on_leads on (c.requires.leads _ (ending c.args.g.now c.args.x c.requires.known c.if-x-g.false c.if-b-g.true))) refl refl refl refl)
 
 pub returns-then-b-g-clause-saw : goal.returns-then-b-g-clause-saw
 returns-then-b-g-clause-saw c y a =
     let r = c.follow.new.self in
-    saw_others c.args.g.now c.args.x c.requires.known (record { set = r.set; from = r.from; seen = r.seen; ended = true; queue = r.queue }) y a c.if-x-g.false
+    saw_others c.args.g.now c.args.x c.requires.known (record { source = r.source; seen = r.seen; ended = true; queue = r.queue }) y a c.if-x-g.false
     c.follow.ensures.saw (λ e. refl)
 
 pub returns-else-b-g-clause-saw : goal.returns-else-b-g-clause-saw
