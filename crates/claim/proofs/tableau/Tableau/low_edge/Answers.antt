@@ -1,8 +1,7 @@
-use Rattle.std.proofs.Common.{rules, ◌≡◌, ◌<◌, length, true, false, sym, ap, ◌∙◌, subst}
+use Rattle.std.proofs.Common.{rules, ◌≡◌, ◌<◌, true, false, sym, ap, ◌∙◌, subst}
 use Rattle.std.proofs.lemmas.Iterator.{YieldsList-from_slice, IsFirst-from_position}
 use Rattle.std.proofs.lemmas.Iterator.Adapters.{serves_from_places}
 use Rattle.sheet.specs.Rows.{T}
-use Rattle.claim.specs.Shares.{FirstLow}
 use Rattle.claim.specs.Tableau.{sheet_in, passes}
 use Rattle.claim.proofs.Edges.{no_edge}
 use Rattle.claim.proofs.Leading.{low_mapped}

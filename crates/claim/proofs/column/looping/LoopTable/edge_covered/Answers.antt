@@ -1,4 +1,4 @@
-use Rattle.std.proofs.Common.{◌-ℤ◌, refl, ◌∙◌, ap₂}
+use Rattle.std.proofs.Common.{◌-ℤ◌, ◌∙◌, ap₂}
 use Rattle.claim.specs.Tableau.{sheet_in, weights_in}
 use Rattle.claim.proofs.Edges.{edge_test}
 use Rattle.claim.proofs.column.looping.LoopTable.edge_covered.Goals as goal
