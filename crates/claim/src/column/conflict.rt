@@ -10,13 +10,14 @@ ghost use Rattle.claim.specs.Tables.{SetsFit, UsedTable, RankTable, EndsIn, Ends
 use crate::rows::value::at;
 use crate::scaled::Scaled;
 use crate::tableau::Tableau;
+use sheet::limits::MOST_SETS;
 use sheet::parts::{Conflict, LBlock, Node};
 
 // A tableau with the number of each used set's row in its family.
 #[derive(Drop)]
 pub struct SetTable<'a> {
     tableau: Tableau<'a>,
-    ranks: [usize; 64],
+    ranks: [usize; MOST_SETS],
     ghost ranked: { RankTable (sheet_in tableau).lblocks ranks },
 }
 
@@ -32,12 +33,12 @@ pub struct ConflictColumn<'a> {
 }
 
 // Which sets an l-block has.
-fn used_sets(lblocks: &[LBlock]) -> [bool; 64]
+fn used_sets(lblocks: &[LBlock]) -> [bool; MOST_SETS]
     requires { SetsFit lblocks.now }
     ensures { UsedTable lblocks.now result }
 {
     // Kept: judging allocates nothing, so a table is an array as long as its limit.
-    let mut used = [false; 64];
+    let mut used = [false; MOST_SETS];
     for lblock in lblocks {
         used[lblock.set] = true;
     }
@@ -45,12 +46,12 @@ fn used_sets(lblocks: &[LBlock]) -> [bool; 64]
 }
 
 // The number of each used set's row in its family.
-fn set_ranks(lblocks: &[LBlock]) -> [usize; 64]
+fn set_ranks(lblocks: &[LBlock]) -> [usize; MOST_SETS]
     requires { SetsFit lblocks.now }
     ensures { RankTable lblocks.now result }
 {
     // Kept: judging allocates nothing, so a table is an array as long as its limit.
-    let mut ranks = [0; 64];
+    let mut ranks = [0; MOST_SETS];
     let mut count = 0;
     for (set, used) in used_sets(lblocks).iter().enumerate() {
         ranks[set] = count;
