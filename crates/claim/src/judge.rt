@@ -38,7 +38,7 @@ fn negative_row(sheet: &Sheet, pairs: &[[u32; 2]]) -> Option<usize>
     requires { length pairs.now ≡ length (row_list (view sheet.now)) }
     ensures { FirstLow as_tested (sign_tests (multipliers pairs.now) (row_list (view sheet.now))) result }
 {
-    (0..pairs.len()).find(|&row| at_most(sheet, row) && !at(pairs, row).covers(Scaled::ZERO))
+    (0..pairs.len()).find(|&row| at_most(sheet, row) && at(pairs, row) < Scaled::ZERO)
 }
 
 impl Tableau<'_> {

@@ -112,13 +112,6 @@ impl Scaled {
     // Nothing, on either scale.
     pub(crate) const ZERO: Scaled = Scaled(0);
 
-    // Whether this is at least so much.
-    pub(crate) fn covers(self, least: Scaled) -> bool
-        ensures { result ≡ int_le least.0 self.0 }
-    {
-        least <= self
-    }
-
     // The column test: whether this is at least the cost, scaled. Nothing is divided.
     pub(crate) fn reaches(self, cost: Cycles, scale: Denominator) -> bool
         requires { cost.0 * scale.value < 2 ^ 63 }

@@ -130,7 +130,7 @@ impl<'a> SetTable<'a> {
             row: self.ranks[conflict.set],
         };
         let total = column.source_share() + column.target_share();
-        total.covers(Scaled::ZERO)
+        Scaled::ZERO <= total
     }
 }
 

@@ -18,7 +18,7 @@ impl LoopTable<'_> {
     {
         let rows = self.tableau.rows;
         let total = self.share(edge) - at(rows.ins, edge.to) - at(rows.outs, edge.from);
-        total.covers(Scaled::ZERO)
+        Scaled::ZERO <= total
     }
 }
 

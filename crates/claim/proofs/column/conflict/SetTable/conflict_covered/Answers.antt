@@ -1,4 +1,4 @@
-use Rattle.std.proofs.Common.{◌+ℤ◌, ◌∙◌, ap₂, arith}
+use Rattle.std.proofs.Common.{rules, ◌+ℤ◌, ◌∙◌, ap₂, arith}
 use Rattle.sheet.specs.Conflict.{used}
 use Rattle.claim.specs.Tableau.{sheet_in, weights_in}
 use Rattle.claim.proofs.Edges.{conflict_test}
@@ -25,6 +25,6 @@ returns c =
     let t = c.args.self.now.tableau in
     let S = sheet_in t in
     let u = used_of S c.args.conflict c.requires in
-    c.covers.ensures
+    search rules
     ∙ conflict_test S (weights_in t) t.sized t.scale.value c.args.conflict u.0 u.1
     c.add-total.result.0 (c.add-total.ensures ∙ ap₂ ◌+ℤ◌ c.source_share.ensures.share c.target_share.ensures.share)
