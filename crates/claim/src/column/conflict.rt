@@ -109,7 +109,7 @@ impl ConflictColumn<'_> {
 
 impl<'a> SetTable<'a> {
     // The used sets of a tableau's sheet.
-    // Kept: the clause says which tableau was taken, of each type that is made of one.
+    // Kept: each of the three tables has to say of which tableau it is made.
     fn of(tableau: &Tableau<'a>) -> SetTable<'a>
         ensures { result.tableau ≡ tableau.now }
     {

@@ -50,7 +50,7 @@ fn fact_shares(facts: &[Fact], pairs: &[[u32; 2]]) -> [Scaled; MOST_BLOCKS]
 
 impl<'a> FactShares<'a> {
     // The facts of a tableau's sheet.
-    // Kept: the clause says which tableau was taken, of each type that is made of one.
+    // Kept: each of the three tables has to say of which tableau it is made.
     pub(crate) fn of(tableau: &Tableau<'a>) -> FactShares<'a>
         ensures { result.tableau ≡ tableau.now }
     {

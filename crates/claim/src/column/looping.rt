@@ -52,7 +52,7 @@ fn back_sources(backs: &[BackEdge]) -> [[bool; MOST_BLOCKS]; MOST_LOOPS]
 
 impl<'a> LoopTable<'a> {
     // The loops of a tableau's sheet.
-    // Kept: the clause says which tableau was taken, of each type that is made of one.
+    // Kept: each of the three tables has to say of which tableau it is made.
     pub(crate) fn of(tableau: &Tableau<'a>) -> LoopTable<'a>
         ensures { result.tableau ≡ tableau.now }
     {
