@@ -12,6 +12,7 @@ use Rattle.claim.specs.Judge.{Verdict, passed, negative, low_column, low_claim, 
 use Rattle.claim.specs.Judging.{JudgeLaws}
 use Rattle.claim.specs.ReadCertificate.{read_certificate, answered, judged}
 use Rattle.claim.specs.declared.tableau.Tableau.{Tableau}
+use Rattle.claim.specs.Parts.{multipliers}
 use Rattle.claim.specs.Shares.{all, as_tested, FirstLow}
 use Rattle.claim.specs.Tableau.{sheet_in, weights_in, passes}
 use Rattle.claim.proofs.CertificateFault.{certificate_first_fault, certificate_cut}
@@ -34,6 +35,11 @@ judge_laws = record {
 
 -- what was found by a tableau of the sheet and the certificate
 module _ (t : Tableau) (S : Sheet) (C : Certificate) (e : sheet_in t ≡ S) (d : t.scale.value ≡ C.D) (m : C.multipliers ≡ all (weights_in t)) where
+  pub found_signs : (r : Option ℕ) → FirstLow as_tested (sign_tests (multipliers t.pairs.now) (rows (sheet_in t))) r → FirstLow as_tested (sign_tests C.multipliers (rows S)) r
+  found_signs r h =
+      subst (λ ys. FirstLow as_tested (sign_tests ys (rows S)) r) (t.whole ∙ sym m)
+      (subst (λ S. FirstLow as_tested (sign_tests (multipliers t.pairs.now) (rows S)) r) e h)
+
   pub found_column : (r : Option ℕ) → FirstLow (passes t) (columns (sheet_in t) (conflicts (sheet_in t))) r → FirstLow (high_enough S C) (columns S (conflicts S)) r
   found_column r h =
       subst (λ ys. FirstLow (high_enough S (record { W = C.W; D = C.D; multipliers = ys })) (columns S (conflicts S)) r) (sym m)

@@ -6,7 +6,7 @@ use Rattle.std.specs.declared.ops.Range.{Range}
 use Rattle.std.specs.Bool.{⊤}
 use Rattle.std.specs.Fn.{CalledAt}
 use Rattle.std.specs.Iterator.{YieldsThen}
-use Rattle.std.specs.List.{prefix_len, FoldsTo}
+use Rattle.std.specs.List.{prefix_len, FoldsTo, AllWithin, HoldsAt}
 use Rattle.std.proofs.iter.Yields.{nat_range_steps}
 use Rattle.std.proofs.lemmas.Iterator.{first_from_Range}
 use Rattle.std.specs.Option.{MatchOption, option_map}
@@ -49,8 +49,16 @@ module _ {A F : Type 0} (g : Mut F (Bor ℕ × Unit {0}) Bool) (p : A → Bool) 
   pub low_each : (f : ℕ → A) (m n : ℕ) → n ≡ m → Found n → Tests (λ k. p (f k)) → FirstLow p (map f (below m)) r
   low_each f m n e = low_at (map f (below m)) (f 0) (λ k. p (f k)) n (e ∙ sym (length-each f m)) (λ k l. ap p (get_or-each f m k (f 0) (omega arith)))
 
-  pub low_mapped : {B : Type 0} (f : B → A) (xs : List B) (d : B) (n : ℕ) → n ≡ length xs → Found n → Tests (λ k. p (f (get_or xs k d))) → FirstLow p (map f xs) r
-  low_mapped f xs d n e = low_at (map f xs) (f d) (λ k. p (f (get_or xs k d))) n (e ∙ sym (length-map xs f)) (λ k l. ap p (get_or-map f xs k d (f d) (omega arith)))
+-- a search by `position` through what is mapped
+module _ {A B : Type 0} (p : A → Bool) (f : B → A) (xs : List B) (d : B) where
+  abbrev High : B → Type 0
+  High x = p (f x) ≡ true
+
+  pub low_mapped : (r : Option ℕ) → MatchOption r (AllWithin High xs 0 (length xs)) (λ i. (i < length xs) × HoldsAt (λ x. p (f x) ≡ false) xs i × AllWithin High xs 0 i) → FirstLow p (map f xs) r
+  low_mapped None h = prefix_len_is p (map f xs) (length (map f xs)) (f d) (omega arith) (λ k l. let m : k < length xs = omega (arith, l, length-map xs f) in ap p (get_or-map f xs k d (f d) m) ∙ h k d (omega arith) m) (λ l. absurd (omega arith))
+  low_mapped (Some i) h =
+      let l : i < length (map f xs) = omega (arith, h.0, length-map xs f) in
+      (prefix_len_is p (map f xs) i (f d) (omega (arith, l)) (λ k m. ap p (get_or-map f xs k d (f d) (omega (arith, h.0))) ∙ h.2 k d (omega arith) m) (λ m. ap p (get_or-map f xs i d (f d) h.0) ∙ h.1 d), l)
 
 -- one list after another
 pub leading_on : {A : Type 0} (p : A → Bool) (xs ys : List A) → prefix_len p xs ≡ length xs → prefix_len p (xs ++ ys) ≡ length xs + prefix_len p ys

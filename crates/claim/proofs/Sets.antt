@@ -2,19 +2,23 @@
 use Rattle.std.proofs.Common.{◌≡◌, ℕ, zero, suc, ◌+◌, ◌<◌, Bool, true, false, cond, ◌⊎◌, List, [], ◌∷◌, ◌++◌, length, get_or, take, set, replicate, filter, sym, refl, ap, ◌∙◌, subst, inl, inr, not-suc-le-zero, arith}
 use Rattle.std.specs.List.{ContainsAt as Has, AllByRecursion}
 use Rattle.std.proofs.lemmas.List.Elements.{filter-append}
-use Rattle.std.proofs.ByRecursion.{All-get_or, all_has_itself, All-append, All-map, all-has, all_kept_by, kept_by_passes}
+use Rattle.std.proofs.ByRecursion.{All-get_or, All-append, All-map, all-has, all_kept_by, kept_by_passes}
 use Rattle.std.proofs.lemmas.List.{get_or-set_same, get_or-set_other, get_or-replicate, length-append}
 use Rattle.std.proofs.lemmas.Bool.{cases_eq}
 use Rattle.words.specs.Lists.{below, joined}
 use Rattle.words.proofs.Lists.{all_below}
+use Rattle.sheet.specs.declared.timing.Sheet.{Sheet as Held}
 use Rattle.sheet.specs.Sheet.{Sheet}
+use Rattle.sheet.specs.View.{view}
 use Rattle.sheet.specs.Conflict.{in_set, used, used_sets, IsConflict}
 use Rattle.sheet.specs.ConflictList.{conflicts, conflicts_of, conflicts_from, leads_to, members, set_lblocks, conflicting}
 use Rattle.sheet.specs.Kept.{used_among}
 use Rattle.sheet.proofs.SheetLists.{below_push}
+use Rattle.sheet.proofs.Reach.{lists_conflicts}
 use Rattle.sheet.proofs.Used.{used_more}
+use Rattle.claim.proofs.Sheets.{sheet_sound}
 use Rattle.claim.specs.Items.{LBlock, Node, START, at, END, Conflict}
-use Rattle.claim.specs.Tables.{UsedTable, NodeIn}
+use Rattle.claim.specs.Tables.{UsedTable, NodeIn, EndsIn}
 
 -- the table of used sets
 pub none_used : (vs : List LBlock) → UsedTable (take 0 vs) (replicate 64 false)
@@ -70,27 +74,27 @@ module _ (S : Sheet) where
   abbrev n : ℕ
   n = length S.lblocks
 
-  abbrev EndsIn : Conflict → Type 0
-  EndsIn c = NodeIn n c.from × NodeIn n c.to
-
   members_in : (s : ℕ) → AllByRecursion (NodeIn n) (members S s)
   members_in s = All-map (NodeIn n) at (set_lblocks S s) (all_kept_by (λ v. in_set S s (at v)) (λ v. v < n) (below n) (all_below (λ v. v < n) n (λ k l. l)))
 
-  from_in : (s : ℕ) (u : Node) → NodeIn n u → AllByRecursion EndsIn (conflicts_from S s u)
+  from_in : (s : ℕ) (u : Node) → NodeIn n u → AllByRecursion (EndsIn n) (conflicts_from S s u)
   from_in s u h =
-      All-map EndsIn (λ v. record { set = s; from = u; to = v }) (leads_to S s u)
+      All-map (EndsIn n) (λ v. record { set = s; from = u; to = v }) (leads_to S s u)
       (all_from (NodeIn n) (λ v. NodeIn n u × NodeIn n v) (λ v a. (h, a)) (leads_to S s u)
       (all_kept_by (conflicting S s u) (NodeIn n) (members S s ++ (END ∷ [])) (All-append (NodeIn n) (members S s) (END ∷ []) (members_in s) (tt, tt))))
 
-  set_in : (s : ℕ) → AllByRecursion EndsIn (conflicts_of S s)
-  set_in s = all_joined EndsIn (conflicts_from S s) (START ∷ members S s) (from_in s START tt, all_from (NodeIn n) (λ u. AllByRecursion EndsIn (conflicts_from S s u)) (from_in s) (members S s) (members_in s))
+  set_in : (s : ℕ) → AllByRecursion (EndsIn n) (conflicts_of S s)
+  set_in s = all_joined (EndsIn n) (conflicts_from S s) (START ∷ members S s) (from_in s START tt, all_from (NodeIn n) (λ u. AllByRecursion (EndsIn n) (conflicts_from S s u)) (from_in s) (members S s) (members_in s))
 
-  pub ends_in : AllByRecursion EndsIn (conflicts S)
-  ends_in = all_joined EndsIn (conflicts_of S) (used_sets S) (all_each (λ s. AllByRecursion EndsIn (conflicts_of S s)) set_in (used_sets S))
+  pub ends_in : AllByRecursion (EndsIn n) (conflicts S)
+  ends_in = all_joined (EndsIn n) (conflicts_of S) (used_sets S) (all_each (λ s. AllByRecursion (EndsIn n) (conflicts_of S s)) set_in (used_sets S))
 
--- the conflict edge at a place of the list
-pub conflict_at : (S : Sheet) (cs : List Conflict) → cs ≡ conflicts S → (p : ℕ) (d : Conflict) → p < length (conflicts S)
-    → (NodeIn (length S.lblocks) (get_or cs p d).from × NodeIn (length S.lblocks) (get_or cs p d).to) × Has cs (get_or cs p d)
-conflict_at S cs e p d h =
-    let l : p < length cs = subst (λ xs. p < length xs) (sym e) h in
-    (subst (λ xs. NodeIn (length S.lblocks) (get_or xs p d).from × NodeIn (length S.lblocks) (get_or xs p d).to) (sym e) (All-get_or (EndsIn S) (conflicts S) p d h (ends_in S)), All-get_or (Has cs) cs p d l (all_has_itself cs))
+-- a conflict edge of the list: its set is used, and its ends are in the sheet
+pub used_of : (S : Sheet) (c : Conflict) → Has (conflicts S) c → (c.set < S.sets) × (used S c.set ≡ true)
+used_of S c h = set_used S c ((lists_conflicts S).sound c h)
+
+pub set_fits : (s : Held) (c : Conflict) → Has (conflicts (view s)) c → c.set < 64
+set_fits s c h = omega (arith, (used_of (view s) c h).0, (sheet_sound s).formed.few_sets)
+
+pub ends_of : (S : Sheet) (c : Conflict) → Has (conflicts S) c → EndsIn (length S.lblocks) c
+ends_of S c h = subst (EndsIn (length S.lblocks)) (h.2 c) (All-get_or (EndsIn (length S.lblocks)) (conflicts S) h.0 c h.1 (ends_in S))

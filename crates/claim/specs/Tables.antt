@@ -1,13 +1,13 @@
 -- For the code that adds up columns: tables by block, by set and by loop, made once for a certificate. Assumes nothing.
 use Rattle.std.specs.Prelude.{◌≡◌, ℕ, ◌^◌, ◌<◌, Bool, false, ◌&&◌, ◌≢◌, List, length, get_or, ℤ, pos, ◌+ℤ◌, ◌-ℤ◌, ◌*ℤ◌, Some, None, Option, ◌==◌, nat_eq, slice_index, slice_index_or}
-use mathlib.Core.HLevel.{⊥_prop}
+use mathlib.Core.HLevel.{Unit-prop, ⊥_prop}
 use Rattle.std.specs.Coded.{Π_prop, →_prop, ×_prop, le_prop, Coded-set, coded_ℕ}
 use Rattle.words.specs.Lists.{any}
 use Rattle.sheet.specs.declared.parts.Loop.{Loop as Header}
 use Rattle.sheet.specs.declared.parts.BackEdge.{BackEdge}
 use Rattle.sheet.specs.Kept.{used_among}
 use Rattle.sheet.specs.Rows.{one_if}
-use Rattle.claim.specs.Items.{Fact, LBlock, Node, START, at, END}
+use Rattle.claim.specs.Items.{Fact, LBlock, Node, START, at, END, Conflict}
 use Rattle.claim.specs.declared.scaled.Scaled.{Scaled}
 use Rattle.claim.specs.Shares.{Near, fact_share}
 
@@ -77,3 +77,15 @@ abbrev pub NodeIn : ℕ → Node → Type 0
 NodeIn n START = Unit {0}
 NodeIn n (at v) = v < n
 NodeIn n END = Unit {0}
+
+-- both ends of a conflict edge are such nodes
+abbrev pub EndsIn : ℕ → Conflict → Type 0
+EndsIn n c = NodeIn n c.from × NodeIn n c.to
+
+NodeIn-prop : (n : ℕ) (u : Node) → IsProp (NodeIn n u)
+NodeIn-prop n START = Unit-prop
+NodeIn-prop n (at v) = le_prop
+NodeIn-prop n END = Unit-prop
+
+pub EndsIn-prop : (n : ℕ) (c : Conflict) → IsProp (EndsIn n c)
+EndsIn-prop n c = ×_prop (NodeIn-prop n c.from) (NodeIn-prop n c.to)

@@ -17,31 +17,31 @@ use crate::scaled::Scaled;
 use crate::tableau::Tableau;
 use sheet::timing::Sheet;
 
-// Whether a row says `at most`: loops and facts, which follow one another, and misses, which come last.
-fn at_most(sheet: &Sheet, row: usize) -> bool
-    requires { row < length (row_list (view sheet.now)) }
-    ensures { result ≡ says_at_most (slice_index_or (row_list (view sheet.now)) row (in_row 0)) }
-{
-    let blocks = sheet.blocks().len();
-    if row < 2 * blocks {
-        return false;
-    }
-    if row < 2 * blocks + sheet.loops().len() + sheet.facts().len() {
-        return true;
-    }
-    sheet.rows() - sheet.lblocks().len() <= row
-}
-
-// The first at_most row whose multiplier is negative.
-// Kept: the rows stand in one list here, which a tableau divides.
-fn negative_row(sheet: &Sheet, pairs: &[[u32; 2]]) -> Option<usize>
-    requires { length pairs.now ≡ length (row_list (view sheet.now)) }
-    ensures { FirstLow as_tested (sign_tests (multipliers pairs.now) (row_list (view sheet.now))) result }
-{
-    (0..pairs.len()).find(|&row| at_most(sheet, row) && !at(pairs, row).covers(Scaled::ZERO))
-}
-
 impl Tableau<'_> {
+    // Whether a row says `at most`: loops and facts, which follow one another, and misses, which come last.
+    fn at_most(&self, row: usize) -> bool
+        requires { row < length (row_list (sheet_in self.now)) }
+        ensures { result ≡ says_at_most (slice_index_or (row_list (sheet_in self.now)) row (in_row 0)) }
+    {
+        let sheet = self.sheet;
+        let blocks = sheet.blocks().len();
+        if row < 2 * blocks {
+            return false;
+        }
+        if row < 2 * blocks + sheet.loops().len() + sheet.facts().len() {
+            return true;
+        }
+        sheet.rows() - sheet.lblocks().len() <= row
+    }
+
+    // The first at_most row whose multiplier is negative.
+    fn negative_row(&self) -> Option<usize>
+        ensures { FirstLow as_tested (sign_tests (multipliers self.now.pairs.now) (row_list (sheet_in self.now))) result }
+    {
+        let pairs = self.pairs;
+        (0..pairs.len()).find(|&row| self.at_most(row) && at(pairs, row) < Scaled::ZERO)
+    }
+
     // The right sides times the multipliers: block 0's in row, the last block's out row, and the set rows.
     fn right_side(&self) -> Scaled
         ensures { result.0 ≡ combined (all (weights_in self.now)) (row_list (sheet_in self.now)) (right_side_of (sheet_in self.now)) }
@@ -61,7 +61,7 @@ pub fn judge(sheet: &Sheet, words: &[u32]) -> Result<Cycles, ClaimFault>
 {
     let certificate = read(words, sheet.rows())?;
     let tableau = Tableau::new(sheet, certificate.pairs, certificate.scale);
-    if let Some(row) = negative_row(sheet, certificate.pairs) {
+    if let Some(row) = tableau.negative_row() {
         return Err(ClaimFault::NegativeMultiplier(row));
     }
     if let Some(column) = tableau.low_column() {

@@ -2,25 +2,28 @@
 // to these.
 ghost use Rattle.std.specs.Prelude.{◌≡◌, ◌+◌, ◌-◌, ◌*◌, ◌^◌, ◌<◌, ◌≤◌, ◌⊎◌, pos, ◌+ℤ◌, ◌-ℤ◌, ◌*ℤ◌, neg_ℤ, FitsSigned, int_le, IfSome, IfNone};
 ghost use Rattle.std.specs.Int.{w64};
+ghost use Rattle.claim.specs.declared.scaled.TheConstants.{MOST_DENOMINATOR};
 
 use crate::amount::Cycles;
 use std::ops::{Add, Mul, Neg, Sub};
+
+const MOST_DENOMINATOR: u32 = 1_048_575;
 
 // What a certificate's amounts are scaled by.
 #[derive(Clone, Copy, PartialEq, Eq, PartialOrd, Ord, Debug)]
 pub struct Denominator {
     value: u32,
     ghost positive: { 1 ≤ value },
-    ghost small: { value < 2 ^ 20 },
+    ghost small: { value ≤ MOST_DENOMINATOR },
 }
 
 impl Denominator {
     // The denominator of this value, if it is within the limits.
     pub(crate) fn new(value: u32) -> Option<Denominator>
         ensures some { IfSome result (λ d. d.value ≡ value) }
-        ensures none { IfNone result ((value < 1) ⊎ (1048575 < value)) }
+        ensures none { IfNone result ((value < 1) ⊎ (MOST_DENOMINATOR < value)) }
     {
-        if (1..=1_048_575).contains(&value) {
+        if (1..=MOST_DENOMINATOR).contains(&value) {
             Some(Denominator { value })
         } else {
             None
@@ -108,13 +111,6 @@ impl Mul<u32> for Scaled {
 impl Scaled {
     // Nothing, on either scale.
     pub(crate) const ZERO: Scaled = Scaled(0);
-
-    // Whether this is at least so much.
-    pub(crate) fn covers(self, least: Scaled) -> bool
-        ensures { result ≡ int_le least.0 self.0 }
-    {
-        least <= self
-    }
 
     // The column test: whether this is at least the cost, scaled. Nothing is divided.
     pub(crate) fn reaches(self, cost: Cycles, scale: Denominator) -> bool

@@ -2,6 +2,7 @@
 ghost use Rattle.std.specs.Prelude.{◌≡◌, ◌+◌, ◌^◌, ◌<◌, ◌≤◌, map, length, sum_by};
 ghost use Rattle.words.specs.Lists.{below};
 ghost use Rattle.sheet.specs.Rows.{N};
+ghost use Rattle.sheet.specs.declared.limits.TheConstants.{MOST_LBLOCKS};
 ghost use Rattle.claim.specs.Shares.{FirstLow, block_sum, fact_share};
 ghost use Rattle.claim.specs.Tableau.{sheet_in, weights_in, passes};
 ghost use Rattle.claim.specs.Tables.{Cheap};
@@ -15,7 +16,7 @@ use sheet::parts::{Block, LBlock};
 
 // What l-blocks cost if all of them hit.
 fn hit_cycles(lblocks: &[LBlock]) -> Cycles
-    requires few { length lblocks.now ≤ 512 }
+    requires few { length lblocks.now ≤ MOST_LBLOCKS }
     requires cheap { Cheap lblocks.now }
     ensures cost { result.0 ≡ sum_by (λ v. v.hit) lblocks.now }
     ensures small { result.0 ≤ 2 ^ 23 }

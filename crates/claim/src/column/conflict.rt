@@ -1,32 +1,44 @@
 // The column of a conflict edge: how often its l-blocks are fetched one after the other. It costs nothing.
-ghost use Rattle.std.specs.Prelude.{◌≡◌, ◌^◌, ◌<◌, map, length, slice_index_or};
+ghost use Rattle.std.specs.Prelude.{◌≡◌, ◌^◌, ◌<◌, map, length};
+ghost use Rattle.std.specs.List.{ContainsAt};
 ghost use Rattle.sheet.specs.ConflictList.{conflicts as conflict_list};
 ghost use Rattle.sheet.specs.Rows.{P, foreign as is_foreign};
-ghost use Rattle.sheet.specs.declared.parts.Conflict.{Conflict as AConflict};
 ghost use Rattle.claim.specs.Shares.{Near, FirstLow, rank, share_of_source, share_of_target};
 ghost use Rattle.claim.specs.Tableau.{sheet_in, weights_in, passes};
-ghost use Rattle.claim.specs.Tables.{SetsFit, UsedTable, RankTable, NodeIn};
+ghost use Rattle.claim.specs.Tables.{SetsFit, UsedTable, RankTable, EndsIn, EndsIn-prop};
 
 use crate::rows::value::at;
 use crate::scaled::Scaled;
 use crate::tableau::Tableau;
-use sheet::parts::{LBlock, Node};
+use sheet::limits::MOST_SETS;
+use sheet::parts::{Conflict, LBlock, Node};
 
 // A tableau with the number of each used set's row in its family.
 #[derive(Drop)]
 pub struct SetTable<'a> {
     tableau: Tableau<'a>,
-    ranks: [usize; 64],
+    ranks: [usize; MOST_SETS],
     ghost ranked: { RankTable (sheet_in tableau).lblocks ranks },
 }
 
+// A conflict edge of a tableau's sheet, with the number of its set's row in its family.
+#[derive(Clone, Copy)]
+pub struct ConflictColumn<'a> {
+    tableau: Tableau<'a>,
+    conflict: Conflict,
+    row: usize,
+    ghost ends: { EndsIn (length (sheet_in tableau).lblocks) conflict } by { EndsIn-prop _ conflict },
+    ghost ranked: { row ≡ rank (sheet_in tableau) conflict.set },
+    ghost used: { row < length (weights_in tableau).sets },
+}
+
 // Which sets an l-block has.
-fn used_sets(lblocks: &[LBlock]) -> [bool; 64]
+fn used_sets(lblocks: &[LBlock]) -> [bool; MOST_SETS]
     requires { SetsFit lblocks.now }
     ensures { UsedTable lblocks.now result }
 {
     // Kept: judging allocates nothing, so a table is an array as long as its limit.
-    let mut used = [false; 64];
+    let mut used = [false; MOST_SETS];
     for lblock in lblocks {
         used[lblock.set] = true;
     }
@@ -34,12 +46,12 @@ fn used_sets(lblocks: &[LBlock]) -> [bool; 64]
 }
 
 // The number of each used set's row in its family.
-fn set_ranks(lblocks: &[LBlock]) -> [usize; 64]
+fn set_ranks(lblocks: &[LBlock]) -> [usize; MOST_SETS]
     requires { SetsFit lblocks.now }
     ensures { RankTable lblocks.now result }
 {
     // Kept: judging allocates nothing, so a table is an array as long as its limit.
-    let mut ranks = [0; 64];
+    let mut ranks = [0; MOST_SETS];
     let mut count = 0;
     for (set, used) in used_sets(lblocks).iter().enumerate() {
         ranks[set] = count;
@@ -50,15 +62,14 @@ fn set_ranks(lblocks: &[LBlock]) -> [usize; 64]
     ranks
 }
 
-impl Tableau<'_> {
+impl ConflictColumn<'_> {
     // Whether the node before an l-block is START or an l-block with another tag, so that the l-block may miss.
-    fn foreign(&self, v: usize, from: Node) -> bool
-        requires target { v < length (sheet_in self.now).lblocks }
-        requires source { NodeIn (length (sheet_in self.now).lblocks) from }
-        ensures { result ≡ is_foreign (sheet_in self.now) v from }
+    fn foreign(&self, v: usize) -> bool
+        requires { v < length (sheet_in self.now.tableau).lblocks }
+        ensures { result ≡ is_foreign (sheet_in self.now.tableau) v self.now.conflict.from }
     {
-        let lblocks = self.sheet.lblocks();
-        match from {
+        let lblocks = self.tableau.sheet.lblocks();
+        match self.conflict.from {
             Node::Start => true,
             Node::At(u) => lblocks[u].tag != lblocks[v].tag,
             Node::End => false,
@@ -66,27 +77,39 @@ impl Tableau<'_> {
     }
 
     // What the arrival and miss rows add, by both ends.
-    fn target_share(&self, from: Node, to: Node) -> Scaled
-        requires source { NodeIn (length (sheet_in self.now).lblocks) from }
-        requires target { NodeIn (length (sheet_in self.now).lblocks) to }
-        ensures share { result.0 ≡ share_of_target (sheet_in self.now) (weights_in self.now) from to }
+    fn target_share(&self) -> Scaled
+        ensures share { result.0 ≡ share_of_target (sheet_in self.now.tableau) (weights_in self.now.tableau) self.now.conflict.from self.now.conflict.to }
         ensures near { Near (2 ^ 41) result.0 }
     {
-        let Node::At(v) = to else {
+        let Node::At(v) = self.conflict.to else {
             return Scaled::ZERO;
         };
-        let arrival = -at(self.rows.arrivals, v);
-        if self.foreign(v, from) {
-            arrival - at(self.rows.misses, v)
+        let rows = self.tableau.rows;
+        let arrival = -at(rows.arrivals, v);
+        if self.foreign(v) {
+            arrival - at(rows.misses, v)
         } else {
             arrival
+        }
+    }
+
+    // What the set and departure rows add, by the set and the source.
+    fn source_share(&self) -> Scaled
+        ensures share { result.0 ≡ share_of_source (sheet_in self.now.tableau) (weights_in self.now.tableau) self.now.conflict.set self.now.conflict.from }
+        ensures near { Near (2 ^ 40) result.0 }
+    {
+        let rows = self.tableau.rows;
+        match self.conflict.from {
+            Node::Start => at(rows.sets, self.row),
+            Node::At(u) => -at(rows.departures, u),
+            Node::End => Scaled::ZERO,
         }
     }
 }
 
 impl<'a> SetTable<'a> {
     // The used sets of a tableau's sheet.
-    // Kept: the clause says which tableau was taken, of each type that is made of one.
+    // Kept: each of the three tables has to say of which tableau it is made.
     fn of(tableau: &Tableau<'a>) -> SetTable<'a>
         ensures { result.tableau ≡ tableau.now }
     {
@@ -96,30 +119,18 @@ impl<'a> SetTable<'a> {
         }
     }
 
-    // What the set and departure rows add, by the set and the source.
-    fn source_share(&self, set: usize, from: Node) -> Scaled
-        requires set { set < 64 }
-        requires used { rank (sheet_in self.now.tableau) set < length (weights_in self.now.tableau).sets }
-        requires source { NodeIn (length (sheet_in self.now.tableau).lblocks) from }
-        ensures share { result.0 ≡ share_of_source (sheet_in self.now.tableau) (weights_in self.now.tableau) set from }
-        ensures near { Near (2 ^ 40) result.0 }
+    // Whether the column of a conflict edge of the sheet is not below nothing.
+    fn conflict_covered(&self, conflict: Conflict) -> bool
+        requires { ContainsAt (conflict_list (sheet_in self.now.tableau)) conflict }
+        ensures { result ≡ passes self.now.tableau (P conflict) }
     {
-        let rows = self.tableau.rows;
-        match from {
-            Node::Start => at(rows.sets, self.ranks[set]),
-            Node::At(u) => -at(rows.departures, u),
-            Node::End => Scaled::ZERO,
-        }
-    }
-
-    // Whether the column is not below nothing.
-    fn conflict_covered(&self, p: usize) -> bool
-        requires { p < length (conflict_list (sheet_in self.now.tableau)) }
-        ensures { (x : AConflict) → result ≡ passes self.now.tableau (P (slice_index_or (conflict_list (sheet_in self.now.tableau)) p x)) }
-    {
-        let c = self.tableau.sheet.conflicts()[p];
-        let total = self.source_share(c.set, c.from) + self.tableau.target_share(c.from, c.to);
-        total.covers(Scaled::ZERO)
+        let column = ConflictColumn {
+            tableau: self.tableau,
+            conflict,
+            row: self.ranks[conflict.set],
+        };
+        let total = column.source_share() + column.target_share();
+        Scaled::ZERO <= total
     }
 }
 
@@ -129,7 +140,9 @@ impl Tableau<'_> {
         ensures { FirstLow (passes self.now) (map P (conflict_list (sheet_in self.now))) result }
     {
         let sets = SetTable::of(self);
-        let conflicts = self.sheet.conflicts().len();
-        (0..conflicts).find(|&p| !sets.conflict_covered(p))
+        self.sheet
+            .conflicts()
+            .iter()
+            .position(|conflict| !sets.conflict_covered(*conflict))
     }
 }

@@ -1,5 +1,6 @@
 // What the fact rows add to the columns of the blocks.
 ghost use Rattle.std.specs.Prelude.{◌≡◌, ◌*◌, ◌^◌, ◌≤◌, length};
+ghost use Rattle.sheet.specs.declared.limits.TheConstants.{MOST_FACTS};
 ghost use Rattle.claim.specs.Parts.{multipliers};
 ghost use Rattle.claim.specs.Shares.{Near};
 ghost use Rattle.claim.specs.Tableau.{sheet_in, weights_in};
@@ -8,19 +9,20 @@ ghost use Rattle.claim.specs.Tables.{FactFits, FactsFit, FactAdded, FactTable, A
 use crate::rows::value::multiplier;
 use crate::scaled::Scaled;
 use crate::tableau::Tableau;
+use sheet::limits::MOST_BLOCKS;
 use sheet::parts::Fact;
 
 // A tableau with what the fact rows add to each block's column.
 #[derive(Drop)]
 pub struct FactShares<'a> {
     pub(crate) tableau: Tableau<'a>,
-    pub(crate) shares: [Scaled; 128],
+    pub(crate) shares: [Scaled; MOST_BLOCKS],
     ghost shared: { FactTable (weights_in tableau).facts (sheet_in tableau).facts shares },
     ghost near: { AllNear (2 ^ 60) shares },
 }
 
 // The row of one fact: its multiplier once for block i, and minus k times for block j.
-fn add_fact(shares: &mut [Scaled; 128], fact: &Fact, multiplier: Scaled)
+fn add_fact(shares: &mut [Scaled; MOST_BLOCKS], fact: &Fact, multiplier: Scaled)
     requires fits { FactFits fact.now }
     requires near { Near (2 ^ 40) multiplier.0 }
     requires room { AllNear (31 * 2 ^ 55) shares.old }
@@ -31,15 +33,15 @@ fn add_fact(shares: &mut [Scaled; 128], fact: &Fact, multiplier: Scaled)
 }
 
 // The shares of all blocks.
-fn fact_shares(facts: &[Fact], pairs: &[[u32; 2]]) -> [Scaled; 128]
+fn fact_shares(facts: &[Fact], pairs: &[[u32; 2]]) -> [Scaled; MOST_BLOCKS]
     requires fits { FactsFit facts.now }
-    requires few { length facts.now ≤ 32 }
+    requires few { length facts.now ≤ MOST_FACTS }
     requires paired { length pairs.now ≡ length facts.now }
     ensures shares { FactTable (multipliers pairs.now) facts.now result }
     ensures near { AllNear (2 ^ 60) result }
 {
     // Kept: judging allocates nothing, so a table is an array as long as its limit.
-    let mut shares = [Scaled::ZERO; 128];
+    let mut shares = [Scaled::ZERO; MOST_BLOCKS];
     for (fact, pair) in facts.iter().zip(pairs) {
         add_fact(&mut shares, fact, multiplier(pair));
     }
@@ -48,7 +50,7 @@ fn fact_shares(facts: &[Fact], pairs: &[[u32; 2]]) -> [Scaled; 128]
 
 impl<'a> FactShares<'a> {
     // The facts of a tableau's sheet.
-    // Kept: the clause says which tableau was taken, of each type that is made of one.
+    // Kept: each of the three tables has to say of which tableau it is made.
     pub(crate) fn of(tableau: &Tableau<'a>) -> FactShares<'a>
         ensures { result.tableau ≡ tableau.now }
     {

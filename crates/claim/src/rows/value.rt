@@ -1,5 +1,6 @@
 // The multiplier of a row.
 ghost use Rattle.std.specs.Prelude.{◌≡◌, ◌^◌, ◌<◌, ◌≤◌, length, pos, slice_index_or};
+ghost use Rattle.sheet.specs.declared.limits.TheConstants.{MOST_LBLOCKS};
 ghost use Rattle.claim.specs.Parts.{multiplier as multiplier_of, multipliers};
 ghost use Rattle.claim.specs.Shares.{total, Near};
 
@@ -34,10 +35,11 @@ pub(crate) fn at(pairs: &[[u32; 2]], row: usize) -> Scaled
 
 // The multipliers of rows added up.
 pub(crate) fn sum(pairs: &[[u32; 2]]) -> Scaled
-    requires { length pairs.now ≤ 512 }
+    requires { length pairs.now ≤ MOST_LBLOCKS }
     ensures sum { result.0 ≡ total (multipliers pairs.now) }
     ensures near { Near (2 ^ 49) result.0 }
 {
+    // Kept: `iter().map(..).sum()` was tried; the library's lemmas that a sum fits are of unsigned numbers, and this one is signed.
     let mut sum = Scaled::ZERO;
     for pair in pairs {
         sum = sum + multiplier(pair);

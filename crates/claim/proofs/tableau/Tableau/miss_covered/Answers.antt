@@ -11,7 +11,7 @@ reaches-requires c =
     let t = c.args.self.now in
     let e = c.extra_cycles-cost.ensures ∙ ap (λ vs. (get_or vs c.args.v no_lblock).extra) c.lblocks.ensures in
     let f = (sheet_sound t.sheet.now).lblocks_fit c.args.v no_lblock c.requires in
-    omega (arith, mul-lt c.extra_cycles-cost.result.0 t.scale.value (2 ^ 14) (2 ^ 20) (omega (arith, e, f.1)) t.scale.small)
+    omega (arith, mul-lt c.extra_cycles-cost.result.0 t.scale.value (2 ^ 14) (2 ^ 20) (omega (arith, e, f.1)) (omega (arith, t.scale.small)))
 
 pub returns : goal.returns
 returns c =
