@@ -1,5 +1,5 @@
 // The lines of the program.
-ghost use Rattle.std.specs.Prelude.{◌≡◌, ℕ, ◌≤◌, List, length};
+ghost use Rattle.std.specs.Prelude.{◌≡◌, ℕ, ◌≤◌, List, length, Ok, Err};
 ghost use Rattle.line.specs.Fields.{word_text};
 ghost use Rattle.line.specs.Lines.{sheet_text, accepted_text, refusal_text, item_text, layer_text};
 ghost use Rattle.line.specs.Written.{Written};
@@ -111,6 +111,18 @@ impl Line for Refused {
             Field::Word(self.refusal.layer.into()),
         ];
         write_line(out, at, self.item.into(), &fields)
+    }
+}
+
+// An answer's line: that of the value, or that of the refusal.
+impl<A: Line, R: Line> Line for Result<A, R> {
+    ghost text = { elim [ Ok answer ↦ A.text answer | Err refusal ↦ R.text refusal ] };
+
+    fn write(&self, out: &mut [u8], at: usize) -> Result<usize, LineFault> {
+        match self {
+            Ok(answer) => answer.write(out, at),
+            Err(refusal) => refusal.write(out, at),
+        }
     }
 }
 
