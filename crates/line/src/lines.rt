@@ -1,7 +1,7 @@
 // The lines of the program.
-ghost use Rattle.std.specs.Prelude.{◌≡◌, ℕ, ◌≤◌, List, length, Ok, Err};
+ghost use Rattle.std.specs.Prelude.{◌≡◌, ℕ, ◌≤◌, List, length};
 ghost use Rattle.line.specs.Fields.{word_text};
-ghost use Rattle.line.specs.Lines.{sheet_text, accepted_text, refusal_text, item_text, layer_text};
+ghost use Rattle.line.specs.Lines.{sheet_text, accepted_text, refusal_text, item_text, layer_text, answer_text};
 ghost use Rattle.line.specs.Written.{Written};
 
 use crate::fault::LineFault;
@@ -116,7 +116,7 @@ impl Line for Refused {
 
 // An answer's line: that of the value, or that of the refusal.
 impl<A: Line, R: Line> Line for Result<A, R> {
-    ghost text = { elim [ Ok answer ↦ A.text answer | Err refusal ↦ R.text refusal ] };
+    ghost text = { answer_text A.text R.text };
 
     fn write(&self, out: &mut [u8], at: usize) -> Result<usize, LineFault> {
         match self {

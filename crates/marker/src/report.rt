@@ -63,10 +63,10 @@ impl Marker {
         ensures held { HeldAfter (first_list input.now) self.old.room.sheet self.new.room.sheet }
     {
         self.words.take(input);
-        match self.room.read(self.words.as_slice()) {
-            Ok(()) => Ok(numbers(self.room.sheet())),
-            Err(fault) => Err(Refused::new(Item::Sheet, &fault)),
-        }
+        self.room
+            .read(self.words.as_slice())
+            .map_err(|fault| Refused::new(Item::Sheet, &fault))?;
+        Ok(numbers(self.room.sheet()))
     }
 
     // Reads the sheet that the input begins with, and writes its line, or that of its refusal, at a place of the output.
@@ -74,10 +74,7 @@ impl Marker {
         ensures written { Written out.old at (sheet_report input.now) result out.new }
         ensures held { HeldAfter (first_list input.now) self.old.room.sheet self.new.room.sheet }
     {
-        match self.read(input) {
-            Ok(numbers) => numbers.write(out, at),
-            Err(refused) => refused.write(out, at),
-        }
+        self.read(input).write(out, at)
     }
 
     // Appends the lines that are printed for the input.
@@ -87,14 +84,13 @@ impl Marker {
         ensures held { HeldAfter (first_list input.now) self.old.room.sheet self.new.room.sheet }
         ensures laws { StepByStep }
     {
-        match self.read(input) {
-            Ok(numbers) => {
-                append(text, &numbers)?;
-                let start = self.words.len();
-                stream(self.room.sheet(), &mut self.words, input, start, text)
-            }
-            Err(refused) => append(text, &refused),
+        let answer = self.read(input);
+        append(text, &answer)?;
+        if answer.is_err() {
+            return Ok(());
         }
+        let start = self.words.len();
+        stream(self.room.sheet(), &mut self.words, input, start, text)
     }
 }
 

@@ -19,10 +19,10 @@ use words::word::Kind;
 fn certificate(sheet: &Sheet, words: &[u32], text: &mut Vec<u8>) -> Result<(), AllocError>
     ensures { Appended text.old.items (claim_text (judged (view sheet.now) words.now)) result text.new.items }
 {
-    match judge(sheet, words) {
-        Ok(cycles) => append(text, &Accepted { cycles: cycles.0 }),
-        Err(fault) => append(text, &Refused::new(Item::Claim, &fault)),
-    }
+    let answer = judge(sheet, words)
+        .map(|cycles| Accepted { cycles: cycles.0 })
+        .map_err(|fault| Refused::new(Item::Claim, &fault));
+    append(text, &answer)
 }
 
 // Does what the next word asks, at its place in the input, and answers how many words it takes; none where reading stops.
