@@ -61,14 +61,13 @@ module _ (bytes before mid : List ℕ) (s : Held) where
       ∙ ap (λ x. sheet_line (read_sheet (first_list bytes)) ++ after_sheet x (length (first_list bytes)) bytes) (sym a.0))
 
   -- the sheet is accepted, and the lines of the stream follow its line
-  pub accepted_printed : {T E : Type 0} (u : Held) (r : Result SheetNumbers Refused) (start : ℕ) (after : List ℕ) (q : Result T E)
-      → Answered (first_list bytes) s r → is_err r ≡ false → mid ≡ before ++ line r → u ≡ s → start ≡ length (first_list bytes)
-      → Printed mid (stream (view u) start (drop (4 * start) bytes)) q after → Printed before (report bytes) q after
-  accepted_printed u (Err e) start after q a t p f l x = cc
-  accepted_printed u (Ok n) start after q a t p f l x =
-      let lines : sheet_text n ++ stream (view u) start (drop (4 * start) bytes) ≡ report bytes =
-      ap (λ z. z ++ stream (view u) start (drop (4 * start) bytes)) (answer_line (first_list bytes) s (Ok n) a)
-      ∙ ap (λ u. sheet_line (read_sheet (first_list bytes)) ++ stream (view u) start (drop (4 * start) bytes)) f
+  pub accepted_printed : {T E : Type 0} (r : Result SheetNumbers Refused) (start : ℕ) (after : List ℕ) (q : Result T E)
+      → Answered (first_list bytes) s r → is_err r ≡ false → mid ≡ before ++ line r → start ≡ length (first_list bytes)
+      → Printed mid (stream (view s) start (drop (4 * start) bytes)) q after → Printed before (report bytes) q after
+  accepted_printed (Err e) start after q a t p l x = cc
+  accepted_printed (Ok n) start after q a t p l x =
+      let lines : sheet_text n ++ stream (view s) start (drop (4 * start) bytes) ≡ report bytes =
+      ap (λ z. z ++ stream (view s) start (drop (4 * start) bytes)) (answer_line (first_list bytes) s (Ok n) a)
       ∙ ap (λ k. sheet_line (read_sheet (first_list bytes)) ++ stream (view s) k (drop (4 * k) bytes)) l
       ∙ ap (λ x. sheet_line (read_sheet (first_list bytes)) ++ after_sheet x (length (first_list bytes)) bytes) (sym a.0) in
-      subst (λ x. Printed before x q after) lines (printed_more before after (sheet_text n) mid (stream (view u) start (drop (4 * start) bytes)) q (whole_sheet n) p x)
+      subst (λ x. Printed before x q after) lines (printed_more before after (sheet_text n) mid (stream (view s) start (drop (4 * start) bytes)) q (whole_sheet n) p x)

@@ -11,7 +11,6 @@ ghost use Rattle.marker.specs.Stream.{StepByStep};
 ghost use Rattle.marker.specs.Text.{Printed};
 
 use crate::input::{MOST_WORDS, WordList};
-use crate::stream::stream;
 use crate::text::append;
 use line::fault::LineFault;
 use line::lines::{Item, Line, Refused, SheetNumbers};
@@ -25,8 +24,8 @@ pub const MOST_BYTES: usize = 4 * MOST_WORDS;
 // All the memory that marking takes.
 #[derive(Drop)]
 pub struct Marker {
-    room: SheetRoom,
-    words: WordList,
+    pub(crate) room: SheetRoom,
+    pub(crate) words: WordList,
 }
 
 // How many there are of each part of a sheet.
@@ -90,7 +89,7 @@ impl Marker {
             return Ok(());
         }
         let start = self.words.len();
-        stream(self.room.sheet(), &mut self.words, input, start, text)
+        self.stream(input, start, text)
     }
 }
 

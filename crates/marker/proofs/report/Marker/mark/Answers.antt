@@ -21,6 +21,6 @@ stream-requires c = omega (arith, list_within 4096 c.args.input.now, ap length c
 pub returns-clause-printed : goal.returns-clause-printed
 returns-clause-printed c =
     accepted_printed c.args.input.now (vec_items c.args.text.now) (vec_items c.append.new.text) c.read-answer.new.self.room.sheet
-    c.sheet.result.now c.read-answer.result c.len-start.result (vec_items c.stream.new.text) c.stream.result
-    c.read-answer.ensures.answer (sym c.is_err.ensures.value ∙ c.if-is_err.false) c.in_ok-append.ensures c.sheet.ensures
-    (omega (arith, c.len-start.ensures, ap length c.read-answer.ensures.list)) c.stream.ensures
+    c.read-answer.result c.len-start.result (vec_items c.stream.new.text) c.stream.result
+    c.read-answer.ensures.answer (sym c.is_err.ensures.value ∙ c.if-is_err.false) c.in_ok-append.ensures
+    (omega (arith, c.len-start.ensures, ap length c.read-answer.ensures.list)) c.stream.ensures.printed
