@@ -6,7 +6,7 @@ ghost use Rattle.line.specs.Written.{Written};
 
 use crate::fault::LineFault;
 use crate::field::{Field, Word};
-use crate::layout::write_line;
+use crate::layout::Layout;
 use words::refusal::{Layer, Refusal, Refuse};
 
 // No line has more bytes.
@@ -84,7 +84,11 @@ impl Line for SheetNumbers {
             Field::Word(Word::Columns),
             Field::Number(self.columns as u64),
         ];
-        write_line(out, at, Word::Sheet, &fields)
+        let line = Layout {
+            head: Word::Sheet,
+            fields: &fields,
+        };
+        line.write(out, at)
     }
 }
 
@@ -93,7 +97,11 @@ impl Line for Accepted {
     ghost text = { λ line. accepted_text line.cycles };
 
     fn write(&self, out: &mut [u8], at: usize) -> Result<usize, LineFault> {
-        write_line(out, at, Word::Accepted, &[Field::Number(self.cycles)])
+        let line = Layout {
+            head: Word::Accepted,
+            fields: &[Field::Number(self.cycles)],
+        };
+        line.write(out, at)
     }
 }
 
@@ -110,7 +118,11 @@ impl Line for Refused {
             Field::Word(Word::In),
             Field::Word(self.refusal.layer.into()),
         ];
-        write_line(out, at, self.item.into(), &fields)
+        let line = Layout {
+            head: self.item.into(),
+            fields: &fields,
+        };
+        line.write(out, at)
     }
 }
 
