@@ -93,12 +93,23 @@ impl Marker {
     }
 }
 
+// Inputs that are no sheet, and the line of each.
+#[cfg(test)]
+const NO_SHEETS: [(&[u8], &[u8]); 5] = [
+    (b"", b"sheet refused 2 at 0 in words\n"),
+    (b"\x10", b"sheet refused 2 at 0 in words\n"),
+    (b"\x10\x00\x00", b"sheet refused 2 at 0 in words\n"),
+    (b"\xff\xff\xff\xff", b"sheet refused 1 at 0 in words\n"),
+    (b"\x10\x00\x00\x02\x20", b"sheet refused 2 at 1 in words\n"),
+];
+
 #[cfg(test)]
 mod mark_tests {
     use super::*;
     use std::test::Fail;
 
-    // Whether these lines are printed for the input. Kept: each helper tries a call of its own.
+    // Whether these lines are printed for the input.
+    // Kept: the two helpers try different calls.
     fn prints(marker: &mut Marker, heap: Global, input: &[u8], lines: &[u8]) -> bool {
         let mut text = Vec::new(heap);
         marker.mark(input, &mut text).is_ok() && text.as_slice() == lines
@@ -108,14 +119,9 @@ mod mark_tests {
     fn input_that_is_no_sheet(rt: HostRuntime) -> Result<(), Fail> {
         let heap = rt.alloc();
         let mut marker = Marker::reserve(heap)?;
-        let ended = b"sheet refused 2 at 0 in words\n";
-        assert!(rt; prints(&mut marker, heap, b"", ended));
-        assert!(rt; prints(&mut marker, heap, b"\x10", ended));
-        assert!(rt; prints(&mut marker, heap, b"\x10\x00\x00", ended));
-        let not_due = b"sheet refused 1 at 0 in words\n";
-        assert!(rt; prints(&mut marker, heap, b"\xff\xff\xff\xff", not_due));
-        let cut = b"sheet refused 2 at 1 in words\n";
-        assert!(rt; prints(&mut marker, heap, b"\x10\x00\x00\x02\x20", cut));
+        for (input, line) in NO_SHEETS {
+            assert!(rt; prints(&mut marker, heap, input, line));
+        }
         let long = vec![in heap; 16u8; 20000]?;
         assert!(rt; prints(&mut marker, heap, &long, b"sheet refused 4 at 0 in words\n"));
         Ok(())
@@ -147,38 +153,23 @@ mod mark_tests {
 #[cfg(test)]
 mod sheet_tests {
     use super::*;
+    use line::lines::MOST_LINE;
     use std::test::Fail;
 
-    // Whether this is what is printed for the input. Kept: each helper tries a call of its own.
+    // Whether this is what is printed for the input.
+    // Kept: the two helpers try different calls.
     fn prints(marker: &mut Marker, input: &[u8], text: &[u8]) -> bool {
-        let mut out = [0u8; 128];
-        match marker.sheet(input, &mut out, 0) {
-            Ok(end) => end <= 128 && &out[0..end] == text,
-            Err(_) => false,
-        }
+        let mut out = [0; MOST_LINE];
+        let answer = marker.sheet(input, &mut out, 0);
+        answer.is_ok_and(|end| out.get(..end) == Some(text))
     }
 
     #[test]
     fn input_that_is_no_sheet(rt: HostRuntime) -> Result<(), Fail> {
         let mut marker = Marker::reserve(rt.alloc())?;
-        let ended = b"sheet refused 2 at 0 in words\n";
-        assert!(rt; prints(&mut marker, b"", ended));
-        assert!(rt; prints(&mut marker, b"\x10", ended));
-        assert!(rt; prints(&mut marker, b"\x10\x00\x00", ended));
-        assert!(rt;
-            prints(
-                &mut marker,
-                b"\xff\xff\xff\xff",
-                b"sheet refused 1 at 0 in words\n",
-            )
-        );
-        assert!(rt;
-            prints(
-                &mut marker,
-                b"\x10\x00\x00\x02\x20",
-                b"sheet refused 2 at 1 in words\n",
-            )
-        );
+        for (input, line) in NO_SHEETS {
+            assert!(rt; prints(&mut marker, input, line));
+        }
         let long = vec![in rt.alloc(); 16u8; 20000]?;
         assert!(rt; prints(&mut marker, &long, b"sheet refused 4 at 0 in words\n"));
         Ok(())
