@@ -1,7 +1,7 @@
 // Times the reading of a sheet and the judging of its certificate. The words of the one and then the other come from standard input.
 #![tactic(auto)]
 
-use anyhow::anyhow;
+use anyhow::ensure;
 use claim::judge::judge;
 use sheet::room::SheetRoom;
 use std::alloc::{AllocError, Global};
@@ -12,13 +12,13 @@ use words::refusal::{Refusal, Refuse};
 use words::word::Kind;
 
 // The most bytes that are read: those of two lists of 4,096 words.
-// Kept: the marker's limit of this name is that of one list.
-const MOST_BYTES: usize = 32768;
+const MOST_INPUT: usize = 32768;
 
 // How often a thing is timed.
 const ROUNDS: usize = 401;
 
 // The big-endian words of the bytes.
+// Kept: `judge_cases` has one of its own, which refuses a cut last word; each is one chain of the library's methods.
 fn words_of(heap: Global, bytes: &[u8]) -> Result<Vec<u32>, AllocError> {
     let (chunks, _) = bytes.as_chunks::<4>();
     chunks
@@ -50,20 +50,18 @@ fn print_times(rt: &HostRuntime, name: &str, times: &mut Vec<u64>) -> io::Result
     println!(rt; "{name} best {best} median {median}")
 }
 
-// Kept: two loops; with the timed call in a closure, the best time of reading a sheet was 2.34 ms and not 2.17 ms.
 // Times reading the sheet again and again. Each round takes its words anew, so that no reading can be left out.
+// Kept: two loops, since with the timed call in a closure the best reading time rose from 2.17 to 2.34 ms.
 fn time_sheet(rt: &HostRuntime, room: &mut SheetRoom, bytes: &[u8]) -> anyhow::Result<()> {
     let heap = rt.alloc();
     let mut times = Vec::with_capacity(heap, ROUNDS)?;
-    // Kept: a number of rounds, and no index.
+    // Kept: a count of rounds, not an index.
     for _ in 0..ROUNDS {
         let words = words_of(heap, bytes)?;
         let start = Instant::now(rt)?;
         let answer = room.read(&words);
         let span = start.elapsed(rt)?;
-        if answer.is_err() {
-            return Err(anyhow!("the sheet is refused"));
-        }
+        ensure!(answer.is_ok(), "the sheet is refused");
         times.push(nanos(span))?;
     }
     print_times(rt, "sheet", &mut times)?;
@@ -75,7 +73,7 @@ fn time_judge(rt: &HostRuntime, room: &SheetRoom, bytes: &[u8]) -> anyhow::Resul
     let heap = rt.alloc();
     let mut times = Vec::with_capacity(heap, ROUNDS)?;
     let mut accepted = 0;
-    // Kept: a number of rounds, and no index.
+    // Kept: a count of rounds, not an index.
     for _ in 0..ROUNDS {
         let words = words_of(heap, bytes)?;
         let start = Instant::now(rt)?;
@@ -100,8 +98,8 @@ fn time_judge(rt: &HostRuntime, room: &SheetRoom, bytes: &[u8]) -> anyhow::Resul
 fn run(rt: &HostRuntime) -> anyhow::Result<()> {
     let heap = rt.alloc();
     let mut room = SheetRoom::reserve(heap)?;
-    let mut input = Vec::with_capacity(heap, MOST_BYTES)?;
-    rt.stdin().take(MOST_BYTES as u64).read_to_end(&mut input)?;
+    let mut input = Vec::with_capacity(heap, MOST_INPUT)?;
+    rt.stdin().take(MOST_INPUT as u64).read_to_end(&mut input)?;
     if input.is_empty() {
         println!(rt; "nothing to time")?;
         return Ok(());

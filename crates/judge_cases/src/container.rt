@@ -2,7 +2,7 @@
 ghost use Rattle.std.specs.Prelude.{◌≡◌, ◌*◌, ◌<◌, length, IfSome, IfOk, vec_len, MatchOption};
 ghost use Rattle.judge_cases.specs.Container.{words_of, Begins, Cut};
 
-use anyhow::anyhow;
+use anyhow::ensure;
 use std::alloc::Global;
 
 // The words of the bytes, which must be whole.
@@ -12,9 +12,7 @@ pub(crate) fn words_of(heap: Global, bytes: &[u8]) -> anyhow::Result<Vec<u32>>
     ensures len { IfOk result (λ words. 4 * vec_len words ≡ length bytes.now) }
 {
     let (chunks, rest) = bytes.as_chunks::<4>();
-    if !rest.is_empty() {
-        return Err(anyhow!("the last word is cut short"));
-    }
+    ensure!(rest.is_empty(), "the last word is cut short");
     Ok(
         chunks
             .iter()

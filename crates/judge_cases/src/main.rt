@@ -4,25 +4,21 @@
 mod answer;
 mod container;
 
-use answer::answer;
-use anyhow::{Context, anyhow};
+use answer::Case;
+use anyhow::Context;
 use container::{take_list, words_of};
 use line::lines::MOST_LINE;
 use sheet::room::SheetRoom;
 use std::io::{Read, Write};
 
 // Prints the line of one case.
-fn print_case(
-    rt: &HostRuntime,
-    room: &mut SheetRoom,
-    sheet: &[u32],
-    certificate: &[u32],
-) -> anyhow::Result<()> {
+fn print_case(rt: &HostRuntime, room: &mut SheetRoom, case: Case) -> anyhow::Result<()> {
     // Kept: a line is written without allocating, into memory that is lent.
     let mut line = [0; MOST_LINE];
-    let Ok(end) = answer(room, sheet, certificate, &mut line) else {
-        return Err(anyhow!("a line is too long"));
-    };
+    let end = case
+        .answer(room, &mut line)
+        .ok()
+        .context("a line is too long")?;
     rt.stdout().write_all(&line[0..end])?;
     Ok(())
 }
@@ -34,7 +30,8 @@ fn print_cases(rt: &HostRuntime, cases: &[u32]) -> anyhow::Result<()> {
     while !rest.is_empty() {
         let (sheet, tail) = take_list(rest).context("the last sheet is cut short")?;
         let (certificate, tail) = take_list(tail).context("the last certificate is cut short")?;
-        print_case(rt, &mut room, sheet, certificate)?;
+        let case = Case { sheet, certificate };
+        print_case(rt, &mut room, case)?;
         rest = tail;
     }
     Ok(())

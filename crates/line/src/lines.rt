@@ -1,12 +1,12 @@
 // The lines of the program.
 ghost use Rattle.std.specs.Prelude.{◌≡◌, ℕ, ◌≤◌, List, length};
 ghost use Rattle.line.specs.Fields.{word_text};
-ghost use Rattle.line.specs.Lines.{sheet_text, accepted_text, refusal_text, item_text, layer_text};
+ghost use Rattle.line.specs.Lines.{sheet_text, accepted_text, refusal_text, item_text, layer_text, answer_text};
 ghost use Rattle.line.specs.Written.{Written};
 
 use crate::fault::LineFault;
 use crate::field::{Field, Word};
-use crate::layout::write_line;
+use crate::layout::Layout;
 use words::refusal::{Layer, Refusal, Refuse};
 
 // No line has more bytes.
@@ -84,7 +84,11 @@ impl Line for SheetNumbers {
             Field::Word(Word::Columns),
             Field::Number(self.columns as u64),
         ];
-        write_line(out, at, Word::Sheet, &fields)
+        let line = Layout {
+            head: Word::Sheet,
+            fields: &fields,
+        };
+        line.write(out, at)
     }
 }
 
@@ -93,7 +97,11 @@ impl Line for Accepted {
     ghost text = { λ line. accepted_text line.cycles };
 
     fn write(&self, out: &mut [u8], at: usize) -> Result<usize, LineFault> {
-        write_line(out, at, Word::Accepted, &[Field::Number(self.cycles)])
+        let line = Layout {
+            head: Word::Accepted,
+            fields: &[Field::Number(self.cycles)],
+        };
+        line.write(out, at)
     }
 }
 
@@ -110,7 +118,23 @@ impl Line for Refused {
             Field::Word(Word::In),
             Field::Word(self.refusal.layer.into()),
         ];
-        write_line(out, at, self.item.into(), &fields)
+        let line = Layout {
+            head: self.item.into(),
+            fields: &fields,
+        };
+        line.write(out, at)
+    }
+}
+
+// An answer's line: that of the value, or that of the refusal.
+impl<A: Line, R: Line> Line for Result<A, R> {
+    ghost text = { answer_text A.text R.text };
+
+    fn write(&self, out: &mut [u8], at: usize) -> Result<usize, LineFault> {
+        match self {
+            Ok(answer) => answer.write(out, at),
+            Err(refusal) => refusal.write(out, at),
+        }
     }
 }
 

@@ -1,7 +1,7 @@
 // Reads a timing sheet from standard input and prints its line, or that of its refusal.
 #![tactic(auto)]
 
-use anyhow::anyhow;
+use anyhow::Context;
 use line::lines::MOST_LINE;
 use marker::report::{MOST_BYTES, Marker};
 use std::io::{Read, Write};
@@ -13,9 +13,10 @@ fn run(rt: &HostRuntime) -> anyhow::Result<()> {
     rt.stdin().take(MOST_BYTES as u64).read_to_end(&mut input)?;
     // Kept: a line is written without allocating, into memory that is lent.
     let mut text = [0; MOST_LINE];
-    let Ok(end) = marker.sheet(&input, &mut text, 0) else {
-        return Err(anyhow!("a line is too long"));
-    };
+    let end = marker
+        .sheet(&input, &mut text, 0)
+        .ok()
+        .context("a line is too long")?;
     rt.stdout().write_all(&text[..end])?;
     Ok(())
 }

@@ -1,5 +1,5 @@
 -- For code: the lines of the stream, one step after another. Assumes nothing.
-use Rattle.std.proofs.Common.{◌≡◌, ℕ, zero, suc, ◌+◌, ◌-◌, ◌*◌, ◌<◌, ◌≤◌, Bool, true, false, List, [], ◌∷◌, ◌++◌, length, drop, Some, None, Ok, Err, Option, sym, refl, ap, ◌∙◌, subst, inl, arith}
+use Rattle.std.proofs.Common.{◌≡◌, ℕ, zero, suc, ◌+◌, ◌-◌, ◌*◌, ◌<◌, ◌≤◌, Bool, true, false, List, [], ◌∷◌, ◌++◌, length, drop, Some, None, Ok, Err, Option, Result, sym, refl, ap, ◌∙◌, subst, inl, arith}
 use Rattle.std.specs.declared.alloc.AllocError.{AllocError}
 use Rattle.std.proofs.lemmas.List.{append-nil, append_assoc, drop-drop, length-drop}
 use Rattle.words.specs.Words.{kind, same_kind, refusal, not_due}
@@ -95,12 +95,12 @@ step_by_step S place bytes = go (next S place bytes) (next_within S place bytes)
         ap (λ z. t ++ z) (enough (length bytes) (suc (length (drop (4 * j) bytes))) S (place + j) (drop (4 * j) bytes) (omega (arith, w.0, w.1)) (omega arith))
 
 -- a certificate was judged
-pub judged_done : (S : Sheet) (place w k : ℕ) (bytes ws vs before after : List ℕ) → Some w ≡ first_word bytes → CLAIM ≡ kind w
-    → ws ≡ vs → vs ≡ first_list bytes → k ≡ length vs → after ≡ before ++ claim_text (judged S ws) → Done (next S place bytes) before (Ok (Some k)) after
-judged_done S place w k bytes ws vs before after o q e f l p =
-    let n : next S place bytes ≡ goes_on (claim_text (judged S ws)) (length vs) =
+pub judged_done : (S : Sheet) (place w k : ℕ) (bytes ws before after : List ℕ) → Some w ≡ first_word bytes → CLAIM ≡ kind w
+    → ws ≡ first_list bytes → k ≡ length ws → after ≡ before ++ claim_text (judged S ws) → Done (next S place bytes) before (Ok (Some k)) after
+judged_done S place w k bytes ws before after o q e l p =
+    let n : next S place bytes ≡ goes_on (claim_text (judged S ws)) (length ws) =
     ap (λ o. at_word o S place bytes) (sym o) ∙ ap (λ k. at_kind k S place bytes) (sym q)
-    ∙ ap (λ ws. goes_on (claim_text (judged S ws)) (length (first_list bytes))) (sym (e ∙ f)) ∙ ap (λ us. goes_on (claim_text (judged S ws)) (length us)) (sym f) in
+    ∙ ap (λ ws. goes_on (claim_text (judged S ws)) (length ws)) (sym e) in
     subst (λ x. Done x before (Ok (Some k)) after) (sym n) (l, p)
 
 -- At a place of the input the text is some of the lines, from the first on, and the others are those of the steps from here.
@@ -112,7 +112,12 @@ pub begun : (S : Sheet) (input before : List ℕ) (place : ℕ) → Going S inpu
 begun S input before place = ([], suc (length (drop (4 * place) input)), omega arith, sym (append-nil before), refl, inl refl)
 
 module _ (S : Sheet) (input before lines : List ℕ) (place : ℕ) (text : List ℕ) (within : 4 * place ≤ length input)
-    (g : Going S input before lines place text) (rest : List ℕ) (e : rest ≡ drop (4 * place) input) (after : List ℕ) where
+    (g : Going S input before lines place text) (rest : List ℕ) (e : rest ≡ drop (4 * place) input) (T : Sheet) (same : T ≡ S)
+    (after : List ℕ) where
+  -- the step is that of the sheet which is held
+  here : (r : Result (Option ℕ) AllocError) → Done (next T place rest) text r after → Done (next S place rest) text r after
+  here r d = subst (λ S. Done (next S place rest) text r after) same d
+
   -- what is still printed, where the next step is x
   step_lines : (x : Next) → next S place rest ≡ x
       → lines ≡ g.0 ++ and_then x (λ k. steps (g.1 - 1) S (place + k) (drop (4 * k) (drop (4 * place) input)))
@@ -122,9 +127,9 @@ module _ (S : Sheet) (input before lines : List ℕ) (place : ℕ) (text : List 
       g.4 ∙ ap (λ n. g.0 ++ steps n S place (drop (4 * place) input)) n
       ∙ ap (λ x. g.0 ++ and_then x (λ k. steps (g.1 - 1) S (place + k) (drop (4 * k) (drop (4 * place) input)))) r
 
-  pub went_on : (o : Option ℕ) (k : ℕ) → o ≡ Some k → Done (next S place rest) text (Ok o) after
+  pub went_on : (o : Option ℕ) (k : ℕ) → o ≡ Some k → Done (next T place rest) text (Ok o) after
       → (1 ≤ k) × (4 * (place + k) ≤ length input) × Going S input before lines (place + k) after
-  went_on o k s d = go (next S place rest) refl (next_within S place rest) (subst (λ o. Done (next S place rest) text (Ok o) after) s d)
+  went_on o k s d = go (next S place rest) refl (next_within S place rest) (subst (λ o. Done (next S place rest) text (Ok o) after) s (here (Ok o) d))
     where
       go : (x : Next) → next S place rest ≡ x → Within x rest → Done x text (Ok (Some k)) after
           → (1 ≤ k) × (4 * (place + k) ≤ length input) × Going S input before lines (place + k) after
@@ -149,15 +154,15 @@ module _ (S : Sheet) (input before lines : List ℕ) (place : ℕ) (text : List 
             ),
           )
 
-  pub stopped : (o : Option ℕ) → o ≡ None → Done (next S place rest) text (Ok o) after → after ≡ before ++ lines
-  stopped o s d = go (next S place rest) refl (subst (λ o. Done (next S place rest) text (Ok o) after) s d)
+  pub stopped : (o : Option ℕ) → o ≡ None → Done (next T place rest) text (Ok o) after → after ≡ before ++ lines
+  stopped o s d = go (next S place rest) refl (subst (λ o. Done (next S place rest) text (Ok o) after) s (here (Ok o) d))
     where
       go : (x : Next) → next S place rest ≡ x → Done x text (Ok None) after → after ≡ before ++ lines
       go (goes_on t j) q d = absurd d
       go (stops t) q d = d ∙ ap (λ z. z ++ t) g.3 ∙ append_assoc before g.0 t ∙ ap (λ z. before ++ z) (sym (step_lines (stops t) q))
 
-  pub failed : (y : AllocError) → Done (next S place rest) text (Err y) after → Printed {T = Unit {0}} {E = AllocError} before lines (Err y) after
-  failed y d = (g.0, steps g.1 S place (drop (4 * place) input), go (next S place rest) d ∙ g.3, g.4, g.5)
+  pub failed : (y : AllocError) → Done (next T place rest) text (Err y) after → Printed {T = Unit {0}} {E = AllocError} before lines (Err y) after
+  failed y d = (g.0, steps g.1 S place (drop (4 * place) input), go (next S place rest) (here (Err y) d) ∙ g.3, g.4, g.5)
     where
       go : (x : Next) → Done x text (Err y) after → after ≡ text
       go (goes_on t j) d = d

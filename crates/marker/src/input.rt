@@ -27,7 +27,7 @@ fn is_end(word: u32) -> bool
 }
 
 // The words of one list, in memory that is reserved.
-// Kept: a type shared with the bounded lists of `sheet` would be public, and a public `push` may not ask for room.
+// Kept: a type shared with `sheet` would be public, and a public `push` asks for no room; one that answers instead burdens each caller.
 #[derive(Drop)]
 pub(crate) struct WordList {
     words: Vec<u32>,

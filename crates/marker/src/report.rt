@@ -11,7 +11,6 @@ ghost use Rattle.marker.specs.Stream.{StepByStep};
 ghost use Rattle.marker.specs.Text.{Printed};
 
 use crate::input::{MOST_WORDS, WordList};
-use crate::stream::stream;
 use crate::text::append;
 use line::fault::LineFault;
 use line::lines::{Item, Line, Refused, SheetNumbers};
@@ -25,8 +24,8 @@ pub const MOST_BYTES: usize = 4 * MOST_WORDS;
 // All the memory that marking takes.
 #[derive(Drop)]
 pub struct Marker {
-    room: SheetRoom,
-    words: WordList,
+    pub(crate) room: SheetRoom,
+    pub(crate) words: WordList,
 }
 
 // How many there are of each part of a sheet.
@@ -63,10 +62,10 @@ impl Marker {
         ensures held { HeldAfter (first_list input.now) self.old.room.sheet self.new.room.sheet }
     {
         self.words.take(input);
-        match self.room.read(self.words.as_slice()) {
-            Ok(()) => Ok(numbers(self.room.sheet())),
-            Err(fault) => Err(Refused::new(Item::Sheet, &fault)),
-        }
+        self.room
+            .read(self.words.as_slice())
+            .map_err(|fault| Refused::new(Item::Sheet, &fault))?;
+        Ok(numbers(self.room.sheet()))
     }
 
     // Reads the sheet that the input begins with, and writes its line, or that of its refusal, at a place of the output.
@@ -74,10 +73,7 @@ impl Marker {
         ensures written { Written out.old at (sheet_report input.now) result out.new }
         ensures held { HeldAfter (first_list input.now) self.old.room.sheet self.new.room.sheet }
     {
-        match self.read(input) {
-            Ok(numbers) => numbers.write(out, at),
-            Err(refused) => refused.write(out, at),
-        }
+        self.read(input).write(out, at)
     }
 
     // Appends the lines that are printed for the input.
@@ -87,23 +83,33 @@ impl Marker {
         ensures held { HeldAfter (first_list input.now) self.old.room.sheet self.new.room.sheet }
         ensures laws { StepByStep }
     {
-        match self.read(input) {
-            Ok(numbers) => {
-                append(text, &numbers)?;
-                let start = self.words.len();
-                stream(self.room.sheet(), &mut self.words, input, start, text)
-            }
-            Err(refused) => append(text, &refused),
+        let answer = self.read(input);
+        append(text, &answer)?;
+        if answer.is_err() {
+            return Ok(());
         }
+        let start = self.words.len();
+        self.stream(input, start, text)
     }
 }
+
+// Inputs that are no sheet, and the line of each.
+#[cfg(test)]
+const NO_SHEETS: [(&[u8], &[u8]); 5] = [
+    (b"", b"sheet refused 2 at 0 in words\n"),
+    (b"\x10", b"sheet refused 2 at 0 in words\n"),
+    (b"\x10\x00\x00", b"sheet refused 2 at 0 in words\n"),
+    (b"\xff\xff\xff\xff", b"sheet refused 1 at 0 in words\n"),
+    (b"\x10\x00\x00\x02\x20", b"sheet refused 2 at 1 in words\n"),
+];
 
 #[cfg(test)]
 mod mark_tests {
     use super::*;
     use std::test::Fail;
 
-    // Whether these lines are printed for the input. Kept: each helper tries a call of its own.
+    // Whether these lines are printed for the input.
+    // Kept: the two helpers try different calls.
     fn prints(marker: &mut Marker, heap: Global, input: &[u8], lines: &[u8]) -> bool {
         let mut text = Vec::new(heap);
         marker.mark(input, &mut text).is_ok() && text.as_slice() == lines
@@ -113,14 +119,9 @@ mod mark_tests {
     fn input_that_is_no_sheet(rt: HostRuntime) -> Result<(), Fail> {
         let heap = rt.alloc();
         let mut marker = Marker::reserve(heap)?;
-        let ended = b"sheet refused 2 at 0 in words\n";
-        assert!(rt; prints(&mut marker, heap, b"", ended));
-        assert!(rt; prints(&mut marker, heap, b"\x10", ended));
-        assert!(rt; prints(&mut marker, heap, b"\x10\x00\x00", ended));
-        let not_due = b"sheet refused 1 at 0 in words\n";
-        assert!(rt; prints(&mut marker, heap, b"\xff\xff\xff\xff", not_due));
-        let cut = b"sheet refused 2 at 1 in words\n";
-        assert!(rt; prints(&mut marker, heap, b"\x10\x00\x00\x02\x20", cut));
+        for (input, line) in NO_SHEETS {
+            assert!(rt; prints(&mut marker, heap, input, line));
+        }
         let long = vec![in heap; 16u8; 20000]?;
         assert!(rt; prints(&mut marker, heap, &long, b"sheet refused 4 at 0 in words\n"));
         Ok(())
@@ -152,38 +153,23 @@ mod mark_tests {
 #[cfg(test)]
 mod sheet_tests {
     use super::*;
+    use line::lines::MOST_LINE;
     use std::test::Fail;
 
-    // Whether this is what is printed for the input. Kept: each helper tries a call of its own.
+    // Whether this is what is printed for the input.
+    // Kept: the two helpers try different calls.
     fn prints(marker: &mut Marker, input: &[u8], text: &[u8]) -> bool {
-        let mut out = [0u8; 128];
-        match marker.sheet(input, &mut out, 0) {
-            Ok(end) => end <= 128 && &out[0..end] == text,
-            Err(_) => false,
-        }
+        let mut out = [0; MOST_LINE];
+        let answer = marker.sheet(input, &mut out, 0);
+        answer.is_ok_and(|end| out.get(..end) == Some(text))
     }
 
     #[test]
     fn input_that_is_no_sheet(rt: HostRuntime) -> Result<(), Fail> {
         let mut marker = Marker::reserve(rt.alloc())?;
-        let ended = b"sheet refused 2 at 0 in words\n";
-        assert!(rt; prints(&mut marker, b"", ended));
-        assert!(rt; prints(&mut marker, b"\x10", ended));
-        assert!(rt; prints(&mut marker, b"\x10\x00\x00", ended));
-        assert!(rt;
-            prints(
-                &mut marker,
-                b"\xff\xff\xff\xff",
-                b"sheet refused 1 at 0 in words\n",
-            )
-        );
-        assert!(rt;
-            prints(
-                &mut marker,
-                b"\x10\x00\x00\x02\x20",
-                b"sheet refused 2 at 1 in words\n",
-            )
-        );
+        for (input, line) in NO_SHEETS {
+            assert!(rt; prints(&mut marker, input, line));
+        }
         let long = vec![in rt.alloc(); 16u8; 20000]?;
         assert!(rt; prints(&mut marker, &long, b"sheet refused 4 at 0 in words\n"));
         Ok(())

@@ -41,7 +41,7 @@ fn facts(list: &mut Vec<u32>) -> Result<(), AllocError> {
 }
 
 // The list with each of these words after it, which is refused with the number given, at that word.
-// Kept: the number is stated as it is printed.
+// Kept: tests state the number that is printed, which an enum of faults would leave to the code under test.
 fn all_refused_next(
     room: &mut SheetRoom,
     list: &mut Vec<u32>,

@@ -33,7 +33,7 @@ pub fn accepted(room: &mut SheetRoom, list: &[u32]) -> Result<(), Fail> {
 }
 
 // Fails unless the list is refused so, and the room holds the drum task's sheet as before. Numbers 1 to 4 are of the layer of words.
-// Kept: the number is stated as it is printed.
+// Kept: tests state the number that is printed, which an enum of faults would leave to the code under test.
 pub fn refused(room: &mut SheetRoom, list: &[u32], number: u8, place: usize) -> Result<(), Fail> {
     let layer = if number <= 4 {
         Layer::Words

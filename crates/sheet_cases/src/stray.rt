@@ -5,7 +5,7 @@ use crate::outcome::{drum_room, refusal, refused};
 use std::test::Fail;
 
 // The first words of a list, the word that fills it up, the refusal's number and its place.
-// Kept: the number is stated as it is printed.
+// Kept: tests state the number that is printed, which an enum of faults would leave to the code under test.
 struct Case(&'static [u32], u32, u8, usize);
 
 const FILLED: [Case; 5] = [

@@ -1,16 +1,12 @@
-use Rattle.std.proofs.Common.{sym, ap, ◌∙◌}
-use Rattle.sheet.specs.Faults.{sheet_refusal}
-use Rattle.sheet.specs.ReadSheet.{read_sheet}
+use Rattle.std.proofs.Common.{◌∙◌}
 use Rattle.marker.specs.Input.{first_list}
-use Rattle.marker.proofs.Reporting.{accepted_held, refused_held}
+use Rattle.marker.proofs.Reporting.{held}
 use Rattle.marker.proofs.report.Marker.read.Goals as goal
 
-pub returns-in-Ok-clause-held : goal.returns-in-Ok-clause-held
-returns-in-Ok-clause-held c =
-    let e = ap read_sheet (sym (c.as_slice.ensures ∙ c.take.ensures)) ∙ c.in-Ok.ensures.answer in
-    accepted_held (first_list c.args.input.now) c.read.new.self.sheet e c.args.self.now.room.sheet
+pub returns-in_err-map_err-clause-held : goal.returns-in_err-map_err-clause-held
+returns-in_err-map_err-clause-held c =
+    held (first_list c.args.input.now) _ c.args.self.now.room.sheet c.read.new.self.sheet c.read.result (c.as_slice.ensures ∙ c.take.ensures) c.read.ensures.answer
 
-pub returns-in-Err-clause-held : goal.returns-in-Err-clause-held
-returns-in-Err-clause-held c =
-    let e = ap read_sheet (sym (c.as_slice.ensures ∙ c.take.ensures)) ∙ c.in-Err.ensures.answer.0 in
-    refused_held (first_list c.args.input.now) (sheet_refusal c.in-Err.fault) c.read.new.self.sheet c.args.self.now.room.sheet e c.in-Err.ensures.answer.1
+pub returns-clause-held : goal.returns-clause-held
+returns-clause-held c =
+    held (first_list c.args.input.now) _ c.args.self.now.room.sheet c.read.new.self.sheet c.read.result (c.as_slice.ensures ∙ c.take.ensures) c.read.ensures.answer
