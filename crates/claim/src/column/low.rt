@@ -11,7 +11,7 @@ impl Tableau<'_> {
     pub(crate) fn low_column(&self) -> Option<usize>
         ensures { FirstLow (passes self.now) (column_list (sheet_in self.now) (conflict_list (sheet_in self.now))) result }
     {
-        // Kept: the proof learns nothing of what `or_else(|| Some(edges + self.low_edge()?))` answers.
+        // Kept: the proof learns nothing of what `or_else(|| Some(edges + self.low_edge()?))` answers, nor with `self.low_edge().map(..)` in it.
         if let Some(b) = self.low_block() {
             return Some(b);
         }

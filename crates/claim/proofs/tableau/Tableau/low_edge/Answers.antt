@@ -14,8 +14,8 @@ position-requires-clause-callable c =
     let S = sheet_in t in
     serves_from_places (YieldsList-from_slice S.edges (c.iter.ensures.rest ∙ c.edges.ensures)) (λ x q k. search rules)
     (λ x k l e. λ _ _ _ _ _ _.
-      subst (λ b. (x.now.from < b) × (x.now.to < b)) (sym (ap (λ t. (sheet_in t).blocks) c.of-loops.ensures))
-      (subst (λ y. (y.from < S.blocks) × (y.to < S.blocks)) (sym e) ((sheet_sound t.sheet.now).edges_fit k x.now l)))
+    subst (λ b. (x.now.from < b) × (x.now.to < b)) (sym (ap (λ t. (sheet_in t).blocks) c.of-loops.ensures))
+    (subst (λ y. (y.from < S.blocks) × (y.to < S.blocks)) (sym e) ((sheet_sound t.sheet.now).edges_fit k x.now l)))
 
 pub returns : goal.returns
 returns c =
