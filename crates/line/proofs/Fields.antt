@@ -1,6 +1,8 @@
 -- The fields of a line, one after another. Assumes nothing.
-use Rattle.std.proofs.Common.{◌≡◌, ℕ, suc, ◌+◌, ◌<◌, ◌≤◌, List, [], ◌∷◌, ◌++◌, map, length, get_or, take, drop, sym, refl, ap, ◌∙◌, append_assoc, arith, length-append}
+use Rattle.std.proofs.Common.{◌≡◌, ℕ, suc, ◌+◌, ◌*◌, ◌<◌, ◌≤◌, List, [], ◌∷◌, ◌++◌, map, length, sum_by, min, get_or, take, drop, sym, refl, ap, ◌∙◌, append_assoc, arith, length-append}
 use Rattle.std.proofs.lemmas.List.{take_more, take_all, append-nil, take-append-drop}
+use Rattle.std.proofs.lemmas.List.Elements.{All-from_get_or}
+use Rattle.std.proofs.lemmas.List.Sums.{sum_by-cons, sum_by-le}
 use Rattle.words.specs.Lists.{joined}
 use Rattle.line.specs.declared.field.Word.{Word}
 use Rattle.line.specs.declared.field.Field.{Field}
@@ -39,3 +41,15 @@ length_more fs i h = ap length (after_more fs i no_field h) ∙ length-append (a
 
 pub after_all : (fs : List Field) (i : ℕ) → length fs ≤ i → after (take i fs) ≡ after fs
 after_all fs i h = ap after (take_all i fs h)
+
+-- the bytes of the fields after the first word
+pub length_after : (fs : List Field) → length (after fs) ≡ sum_by (λ f. 1 + length (field_text f)) fs
+length_after [] = refl
+length_after (f ∷ fs) =
+    let e = length-append (32 ∷ field_text f) (after fs) in
+    let s = sum_by-cons (λ f. 1 + length (field_text f)) f fs in
+    let h = length_after fs in
+    omega arith
+
+pub fields_le : (fs : List Field) → sum_by (λ f. min 21 (1 + length (field_text f))) fs ≤ length fs * 21
+fields_le fs = sum_by-le (λ f. min 21 (1 + length (field_text f))) 21 fs (All-from_get_or (λ f. min 21 (1 + length (field_text f)) ≤ 21) fs no_field (λ i h. omega arith))

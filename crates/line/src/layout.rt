@@ -32,11 +32,8 @@ impl Layout<'_> {
         ensures count { result ≡ length (layout_text self.now.head self.now.fields.now) }
         ensures bound { result ≤ 21 + 21 * length self.now.fields.now }
     {
-        let mut count = self.head.text().len();
-        for field in self.fields {
-            count += 1 + field.length();
-        }
-        count + 1
+        let fields: usize = self.fields.iter().map(|field| 1 + field.length()).sum();
+        self.head.text().len() + fields + 1
     }
 
     // Writes the line at the start of `out`.
