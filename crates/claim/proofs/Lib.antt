@@ -19,7 +19,6 @@ pub mod Division
 pub mod Nears
 pub mod Facts
 pub mod Leading
-pub mod Sheets
 pub mod Blocks
 pub mod Loopings
 pub mod Edges

@@ -21,7 +21,7 @@ use Rattle.claim.specs.declared.column.looping.LoopTable.{LoopTable}
 use Rattle.sheet.specs.View.{items}
 use Rattle.claim.proofs.Ints.{*ℤ-negℤ}
 use Rattle.claim.proofs.Nears.{near_times}
-use Rattle.claim.proofs.Sheets.{sheet_sound}
+use Rattle.sheet.proofs.Sheets.{sheet_sound}
 
 -- the table of headers
 pub no_headers : (hs : List Header) → HeaderTable hs 0 (replicate 128 None)

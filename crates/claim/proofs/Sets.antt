@@ -16,7 +16,7 @@ use Rattle.sheet.specs.Kept.{used_among}
 use Rattle.sheet.proofs.SheetLists.{below_push}
 use Rattle.sheet.proofs.Reach.{lists_conflicts}
 use Rattle.sheet.proofs.Used.{used_more}
-use Rattle.claim.proofs.Sheets.{sheet_sound}
+use Rattle.sheet.proofs.Sheets.{sheet_sound}
 use Rattle.claim.specs.Items.{LBlock, Node, START, at, END, Conflict}
 use Rattle.claim.specs.Tables.{UsedTable, NodeIn, EndsIn}
 

@@ -1,6 +1,5 @@
 -- For the code that reads a certificate: what each of its parts is read as. Assumes nothing.
 use Rattle.std.specs.Prelude.{◌≡◌, ℕ, suc, ◌+◌, ◌^◌, ◌<◌, List, [], ◌∷◌, map, length, take, drop, ℤ, Ok, Err, Result, slice_index}
-use Rattle.words.specs.declared.reader.Reader.{Reader}
 use Rattle.words.specs.declared.word.Payload.{Payload}
 use Rattle.words.specs.Words.{kind, payload, fields, minus_bit, unused_bits, top_field, accepted, refused}
 use Rattle.claim.specs.Kinds.{HIGH, END}
@@ -26,11 +25,6 @@ Onward ws s i t j = read_from s (drop i ws) i ≡ read_from t (drop j ws) j
 -- Reading on from a state at place i answers this fault.
 abbrev pub Refuses : List ℕ → State → ℕ → ClaimFault → Type 0
 Refuses ws s i e = read_from s (drop i ws) i ≡ refused (claim_refusal e)
-
--- A reader before and after a part, of which P says how it is read from a list: it goes on in the same list.
-pub record Reads {T : Type 0} (P : List ℕ → ℕ → Result T ClaimFault → ℕ → Type 0) (before : Reader) (r : Result T ClaimFault) (after : Reader) : Type 0 where
-  pub same : after.words ≡ before.words
-  pub read : P before.words.now before.at r after.at
 
 -- The HIGH at place i, where one is due.
 abbrev pub HighRead : List ℕ → ℕ → Result Payload ClaimFault → ℕ → Type 0

@@ -47,12 +47,12 @@ HeaderAt hs n b (Some k) = (k < n) × ((d : Header) → (get_or hs k d).header �
 abbrev pub HeaderTable : List Header → ℕ → List (Option ℕ) → Type 0
 HeaderTable hs n t = (b : ℕ) (d : Option ℕ) → b < 128 → HeaderAt hs n b (slice_index_or t b d)
 
-HeaderAt-prop : (hs : List Header) (n b : ℕ) (o : Option ℕ) → IsProp (HeaderAt hs n b o)
-HeaderAt-prop hs n b None = Π_prop (λ k. Π_prop (λ d. →_prop (→_prop ⊥_prop)))
-HeaderAt-prop hs n b (Some k) = ×_prop le_prop (Π_prop (λ d. Coded-set coded_ℕ (get_or hs k d).header b))
+header_at_prop : (hs : List Header) (n b : ℕ) (o : Option ℕ) → IsProp (HeaderAt hs n b o)
+header_at_prop hs n b None = Π_prop (λ k. Π_prop (λ d. →_prop (→_prop ⊥_prop)))
+header_at_prop hs n b (Some k) = ×_prop le_prop (Π_prop (λ d. Coded-set coded_ℕ (get_or hs k d).header b))
 
-pub HeaderTable-prop : (hs : List Header) (n : ℕ) (t : List (Option ℕ)) → IsProp (HeaderTable hs n t)
-HeaderTable-prop hs n t = Π_prop (λ b. Π_prop (λ d. →_prop (HeaderAt-prop hs n b (slice_index_or t b d))))
+pub header_table_prop : (hs : List Header) (n : ℕ) (t : List (Option ℕ)) → IsProp (HeaderTable hs n t)
+header_table_prop hs n t = Π_prop (λ b. Π_prop (λ d. →_prop (header_at_prop hs n b (slice_index_or t b d))))
 
 -- whether a back edge of loop l comes from block s
 abbrev pub comes_from : List BackEdge → ℕ → ℕ → Bool

@@ -98,7 +98,8 @@ fn time_judge(rt: &HostRuntime, room: &SheetRoom, bytes: &[u8]) -> anyhow::Resul
 fn run(rt: &HostRuntime) -> anyhow::Result<()> {
     let heap = rt.alloc();
     let mut room = SheetRoom::reserve(heap)?;
-    let mut input = Vec::with_capacity(heap, MOST_INPUT)?;
+    // One byte more, so that the end is seen without more room.
+    let mut input = Vec::with_capacity(heap, MOST_INPUT + 1)?;
     rt.stdin().take(MOST_INPUT as u64).read_to_end(&mut input)?;
     if input.is_empty() {
         println!(rt; "nothing to time")?;

@@ -27,6 +27,7 @@ fn print_case(rt: &HostRuntime, room: &mut SheetRoom, case: Case) -> anyhow::Res
 fn print_cases(rt: &HostRuntime, cases: &[u32]) -> anyhow::Result<()> {
     let mut room = SheetRoom::reserve(rt.alloc())?;
     let mut rest = cases;
+    // Kept: each turn takes as much as the case says, which no iterator of the library does.
     while !rest.is_empty() {
         let (sheet, tail) = take_list(rest).context("the last sheet is cut short")?;
         let (certificate, tail) = take_list(tail).context("the last certificate is cut short")?;

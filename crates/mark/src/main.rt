@@ -9,7 +9,8 @@ use std::io::{Read, Write};
 fn run(rt: &HostRuntime) -> anyhow::Result<()> {
     let heap = rt.alloc();
     let mut marker = Marker::reserve(heap)?;
-    let mut input = Vec::with_capacity(heap, MOST_BYTES)?;
+    // One byte more, so that the end is seen without more room.
+    let mut input = Vec::with_capacity(heap, MOST_BYTES + 1)?;
     rt.stdin().take(MOST_BYTES as u64).read_to_end(&mut input)?;
     // Kept: a line is written without allocating, into memory that is lent.
     let mut text = [0; MOST_LINE];

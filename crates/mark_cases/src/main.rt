@@ -27,6 +27,7 @@ fn print_cases(rt: &HostRuntime, cases: &[u8]) -> anyhow::Result<()> {
     let mut marker = Marker::reserve(rt.alloc())?;
     let mut text = Vec::new(rt.alloc());
     let mut rest = cases;
+    // Kept: each turn takes as much as the case says, which no iterator of the library does.
     while !rest.is_empty() {
         let (input, tail) = take_input(rest).context("the last case is cut short")?;
         print_case(rt, &mut marker, input, &mut text)?;

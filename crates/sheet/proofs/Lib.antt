@@ -22,3 +22,4 @@ pub mod SameGraph
 pub mod Used
 pub mod Finding
 pub mod Sound
+pub mod Sheets

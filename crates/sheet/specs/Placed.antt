@@ -1,15 +1,9 @@
 -- Taking a word with its place. Assumes nothing.
 use Rattle.std.specs.Prelude.{◌≡◌, ℕ, ◌+◌, ◌<◌, ◌≤◌, List, length, Ok, Err, Result, slice_index}
-use Rattle.words.specs.declared.reader.Reader.{Reader}
 use Rattle.words.specs.declared.refusal.WordFault.{WordFault}
 use Rattle.words.specs.declared.refusal.WordFault.TheVariants.{EndsEarly}
 use Rattle.words.specs.Words.{kind, payload}
 use Rattle.sheet.specs.declared.draft.placed.PlacedWord.{PlacedWord}
-
--- A reader before and after a part, of which P says how it is read from a list: it goes on in the same list.
-pub record Reads {R : Type 0} (P : List ℕ → ℕ → R → ℕ → Type 0) (before : Reader) (r : R) (after : Reader) : Type 0 where
-  pub same : after.words ≡ before.words
-  pub read : P before.words.now before.at r after.at
 
 -- word i of the list, taken apart
 abbrev pub IsAt : List ℕ → ℕ → PlacedWord → Type 0

@@ -2,3 +2,4 @@ pub mod Lists
 pub mod Words
 pub mod Faults
 pub mod Taking
+pub mod Reads

@@ -2,7 +2,8 @@
 ghost use Rattle.std.specs.Prelude.{◌≡◌, ◌+◌, ◌*◌, ◌≤◌, length, drop};
 ghost use Rattle.std.specs.Simd.{first_chunks};
 ghost use Rattle.words.specs.Words.{fields, top_field};
-ghost use Rattle.claim.specs.Parts.{Reads, HighRead, ScaleRead, ClaimRead, PairRead, EndRead, CertificateRead};
+ghost use Rattle.words.specs.Reads.{Reads};
+ghost use Rattle.claim.specs.Parts.{HighRead, ScaleRead, ClaimRead, PairRead, EndRead, CertificateRead};
 
 use crate::amount::Cycles;
 use crate::certificate::Certificate;

@@ -4,7 +4,7 @@ ghost use Rattle.sheet.specs.View.{items as items_in};
 ghost use Rattle.sheet.specs.declared.limits.TheConstants.{MOST_BLOCKS, MOST_LOOPS};
 ghost use Rattle.claim.specs.Shares.{Near, loop_share};
 ghost use Rattle.claim.specs.Tableau.{sheet_in, weights_in};
-ghost use Rattle.claim.specs.Tables.{HeadersFit, HeaderTable, HeaderTable-prop, SourceTable};
+ghost use Rattle.claim.specs.Tables.{HeadersFit, HeaderTable, header_table_prop, SourceTable};
 
 use crate::rows::value::at;
 use crate::scaled::Scaled;
@@ -18,7 +18,7 @@ pub struct LoopTable<'a> {
     pub(crate) tableau: Tableau<'a>,
     headers: [Option<usize>; MOST_BLOCKS],
     sources: [[bool; MOST_BLOCKS]; MOST_LOOPS],
-    ghost headed: { HeaderTable (items_in tableau.sheet.now).loops (length (items_in tableau.sheet.now).loops) headers } by { HeaderTable-prop _ _ _ },
+    ghost headed: { HeaderTable (items_in tableau.sheet.now).loops (length (items_in tableau.sheet.now).loops) headers } by { header_table_prop _ _ _ },
     ghost sourced: { SourceTable (items_in tableau.sheet.now).backs sources },
 }
 

@@ -1,7 +1,7 @@
 // One word after another: whether its kind is due, its checks, and the section that it leads to.
 ghost use Rattle.std.specs.Prelude.{◌≡◌, ◌+◌, drop};
 ghost use Rattle.sheet.specs.declared.section.Section.TheVariants.{LBlocks};
-ghost use Rattle.sheet.specs.Placed.{Reads};
+ghost use Rattle.words.specs.Reads.{Reads};
 ghost use Rattle.sheet.specs.Sections.{Ready, Turn, Stepped, lacking_in};
 ghost use Rattle.sheet.specs.Tried.{items_of};
 

@@ -1,5 +1,6 @@
 // A word at its place in the list.
-ghost use Rattle.sheet.specs.Placed.{Reads, TakesPlaced};
+ghost use Rattle.words.specs.Reads.{Reads};
+ghost use Rattle.sheet.specs.Placed.{TakesPlaced};
 
 use words::reader::Reader;
 use words::refusal::WordFault;

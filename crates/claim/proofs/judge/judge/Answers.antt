@@ -3,7 +3,7 @@ use Rattle.sheet.specs.View.{view}
 use Rattle.claim.specs.Parts.{multipliers, certificate_of}
 use Rattle.claim.proofs.Judged.{judged_safe}
 use Rattle.claim.proofs.Judgement.{judge_laws, column_refused, claim_refused, claim_accepted, found_signs, found_column, found_claim}
-use Rattle.claim.proofs.Sheets.{sheet_sound}
+use Rattle.sheet.proofs.Sheets.{sheet_sound}
 use Rattle.claim.proofs.judge.judge.Goals as goal
 
 pub returns-in-Some-low_column-clause-answer : goal.returns-in-Some-low_column-clause-answer

@@ -5,7 +5,7 @@ use Rattle.sheet.specs.Rows.{T}
 use Rattle.claim.specs.Tableau.{sheet_in, passes}
 use Rattle.claim.proofs.Edges.{no_edge}
 use Rattle.claim.proofs.Leading.{low_mapped}
-use Rattle.claim.proofs.Sheets.{sheet_sound}
+use Rattle.sheet.proofs.Sheets.{sheet_sound}
 use Rattle.claim.proofs.tableau.Tableau.low_edge.Goals as goal
 
 pub position-requires-clause-callable : goal.position-requires-clause-callable

@@ -3,7 +3,7 @@ use Rattle.std.proofs.lemmas.Nat.{mul-lt}
 use Rattle.sheet.specs.Sheet.{no_lblock}
 use Rattle.claim.specs.Tableau.{sheet_in, weights_in}
 use Rattle.claim.proofs.Edges.{miss_test}
-use Rattle.claim.proofs.Sheets.{sheet_sound}
+use Rattle.sheet.proofs.Sheets.{sheet_sound}
 use Rattle.claim.proofs.tableau.Tableau.miss_covered.Goals as goal
 
 pub reaches-requires : goal.reaches-requires

@@ -3,7 +3,7 @@ use Rattle.claim.proofs.Blocks.{total_part}
 use Rattle.claim.specs.Shares.{Near}
 use Rattle.claim.proofs.Nears.{near_fits, near_add}
 use Rattle.claim.proofs.Facts.{nothing}
-use Rattle.claim.proofs.Sheets.{sheet_sound}
+use Rattle.sheet.proofs.Sheets.{sheet_sound}
 use Rattle.claim.proofs.column.fact.FactShares.block_total.Goals as goal
 
 pub add-requires-4 : goal.add-requires-4

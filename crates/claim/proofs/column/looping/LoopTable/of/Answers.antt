@@ -1,5 +1,5 @@
 use Rattle.std.proofs.Common.{◌<◌, length, get_or, sym, subst, arith}
-use Rattle.claim.proofs.Sheets.{sheet_sound}
+use Rattle.sheet.proofs.Sheets.{sheet_sound}
 use Rattle.claim.proofs.column.looping.LoopTable.of.Goals as goal
 
 pub loop_headers-requires : goal.loop_headers-requires

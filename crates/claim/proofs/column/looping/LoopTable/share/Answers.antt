@@ -9,7 +9,7 @@ use Rattle.claim.specs.Tableau.{weights_in}
 use Rattle.claim.specs.Tables.{HeaderAt}
 use Rattle.claim.proofs.Nears.{near_fits, near_neg}
 use Rattle.claim.proofs.Loopings.{share_none, share_back, share_entry, found, found_near}
-use Rattle.claim.proofs.Sheets.{sheet_sound}
+use Rattle.sheet.proofs.Sheets.{sheet_sound}
 use Rattle.claim.proofs.column.looping.LoopTable.share.Goals as goal
 
 abbrev no_header : Header

@@ -1,4 +1,4 @@
--- For code: what every sheet keeps. Assumes nothing.
+-- What every sheet keeps, for code above. Assumes nothing.
 use Rattle.sheet.specs.declared.timing.Sheet.{Sheet as Held}
 use Rattle.sheet.specs.Sound.{Sound}
 use Rattle.sheet.specs.View.{items}
