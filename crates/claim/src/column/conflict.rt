@@ -53,6 +53,7 @@ fn set_ranks(lblocks: &[LBlock]) -> [usize; MOST_SETS]
     // Kept: judging allocates nothing, so a table is an array as long as its limit.
     let mut ranks = [0; MOST_SETS];
     let mut count = 0;
+    // Kept: with `ranks.iter_mut().zip(used_sets(lblocks))` the loop's proof did not close.
     for (set, used) in used_sets(lblocks).iter().enumerate() {
         ranks[set] = count;
         if *used {
