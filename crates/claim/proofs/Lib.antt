@@ -28,4 +28,5 @@ pub mod CertificateFault
 pub mod Judged
 pub mod Laws
 pub mod Signs
+pub mod SignedSums
 pub mod Judgement

@@ -1,6 +1,5 @@
 -- Sums of values times multipliers: parts of them, and those that pick out some of the multipliers. Assumes nothing.
 use Rattle.std.proofs.Common.{◌≡◌, ℕ, zero, suc, ◌+◌, ◌<◌, ◌≤◌, Bool, true, false, cond, eqb, ◌⊎◌, List, [], ◌∷◌, ◌++◌, map, length, get_or, take, drop, ℤ, pos, ◌+ℤ◌, ◌*ℤ◌, neg_ℤ, filter, sym, refl, ap, ◌∙◌, subst, ap₂, inl, inr, le_of_suc-le-suc, not-suc-le-zero, add-zero, add-one, arith}
-use Rattle.std.proofs.lemmas.List.{take_more, get_or-drop, length-drop}
 use Rattle.std.proofs.lemmas.Int.{ints}
 use Rattle.std.proofs.lemmas.Bool.{eq-eqb, ne_eqb}
 use Rattle.words.specs.Lists.{up_from}
@@ -133,12 +132,3 @@ combined_suc (y ∷ ys) (x ∷ xs) f (suc i) e l u = omega (arith, ints, combine
 pub combined_more : {A : Type 0} (ys : List ℤ) (xs : List A) (f : A → ℤ) (i : ℕ) (e : A) → i < length ys → i < length xs
     → combined (take (i + 1) ys) (take (i + 1) xs) f ≡ combined (take i ys) (take i xs) f +ℤ (get_or ys i (pos 0) *ℤ f (get_or xs i e))
 combined_more ys xs f i e l u = rw add-one (combined_suc ys xs f i e l u)
-
-total_push : (ys : List ℤ) (y : ℤ) → total (ys ++ (y ∷ [])) ≡ total ys +ℤ y
-total_push [] y = omega (arith, ints)
-total_push (x ∷ ys) y = omega (arith, ints, total_push ys y)
-
-pub total_more : (ys : List ℤ) (f n : ℕ) → f + n < length ys → total (take (n + 1) (drop f ys)) ≡ total (take n (drop f ys)) +ℤ get_or ys (f + n) (pos 0)
-total_more ys f n h =
-    ap total (take_more (drop f ys) n (pos 0) (omega (arith, length-drop f ys))) ∙ total_push (take n (drop f ys)) (get_or (drop f ys) n (pos 0))
-    ∙ ap (λ y. total (take n (drop f ys)) +ℤ y) (get_or-drop f ys n (pos 0))

@@ -39,10 +39,5 @@ pub(crate) fn sum(pairs: &[[u32; 2]]) -> Scaled
     ensures sum { result.0 ≡ total (multipliers pairs.now) }
     ensures near { Near (2 ^ 49) result.0 }
 {
-    // Kept: `iter().map(..).sum()` was tried; the library's lemmas that a sum fits are of unsigned numbers, and this one is signed.
-    let mut sum = Scaled::ZERO;
-    for pair in pairs {
-        sum = sum + multiplier(pair);
-    }
-    sum
+    Scaled(pairs.iter().map(|pair| multiplier(pair).0).sum())
 }

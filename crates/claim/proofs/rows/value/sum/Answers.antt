@@ -1,18 +1,25 @@
-use Rattle.std.proofs.Common.{◌≡◌, ◌+◌, ◌*◌, ◌^◌, ◌<◌, [], length, get_or, pos, ◌+ℤ◌, sym, ap, ◌∙◌, subst, ap₂, zero-add, arith}
-use Rattle.std.proofs.lemmas.List.{length-map, get_or-map}
+use Rattle.std.proofs.Common.{rules, ◌≡◌, ◌*◌, ◌^◌, length, map, pos, ◌+ℤ◌, sym, ap, ◌∙◌, subst, arith}
+use Rattle.std.proofs.lemmas.Int.{ints}
+use Rattle.std.proofs.lemmas.List.{length-map, map-id}
+use Rattle.std.proofs.lemmas.Iterator.{YieldsList-from_slice, YieldsList-from_map, items_from_drains}
 use Rattle.claim.specs.Parts.{multiplier, multipliers}
-use Rattle.claim.specs.Shares.{Near}
-use Rattle.claim.proofs.Nears.{near_more, near_add}
-use Rattle.claim.proofs.Weights.{total_more}
+use Rattle.claim.specs.Shares.{total, Near}
+use Rattle.claim.proofs.Nears.{near_more}
+use Rattle.claim.proofs.SignedSums.{multipliers_fit, fold_total, near_total}
 use Rattle.claim.proofs.rows.value.sum.Goals as goal
 
-pub loop-pair-preserved : goal.loop-pair-preserved
-loop-pair-preserved c =
-    let i = c.loop-pair.pair-index in
+pub sum-requires-clause-fits : goal.sum-requires-clause-fits
+sum-requires-clause-fits c =
     let ps = c.args.pairs.now in
-    let l : i < length (multipliers ps) = omega (arith, length-map ps multiplier, c.loop-pair-test.true) in
-    let v : c.multiplier.result.0 ≡ get_or (multipliers ps) (0 + i) (pos 0) = c.multiplier.ensures.value ∙ sym (get_or-map multiplier ps i [] (pos 0) c.loop-pair-test.true) ∙ ap (λ n. get_or (multipliers ps) n (pos 0)) (sym (zero-add i)) in (
-      c.add-sum.ensures ∙ ap₂ ◌+ℤ◌ c.loop-pair.invariant.0 v ∙ sym (total_more (multipliers ps) 0 i (omega arith)),
-      subst (Near ((i + 1) * 2 ^ 40)) (sym c.add-sum.ensures)
-          (near_more (i * 2 ^ 40 + 2 ^ 40) ((i + 1) * 2 ^ 40) _ (omega arith) (near_add (i * 2 ^ 40) (2 ^ 40) c.loop-pair.sum.0 c.multiplier.result.0 c.loop-pair.invariant.1 c.multiplier.ensures.near)),
-    )
+    multipliers_fit ps (YieldsList-from_map _ multiplier (YieldsList-from_slice ps (search rules)) (search rules) (λ x r q k. search rules)) (omega (arith, length-map ps multiplier, c.requires))
+
+pub returns : goal.returns
+returns c =
+    let ps = c.args.pairs.now in
+    let xs = c.sum.ensures.ran.0 in
+    let d = c.sum.ensures.ran.1 tt in
+    let m : map (λ x. x) xs ≡ multipliers ps =
+    items_from_drains {s = c.map.result} xs (d.1.0, d.1.1, λ _. (d.0, d.1.2)) (YieldsList-from_map _ multiplier (YieldsList-from_slice ps (search rules)) (search rules) (λ x r q k. search rules)) in
+    let e : c.sum.result ≡ total (multipliers ps) = c.sum.ensures.ran.2 ∙ fold_total (pos 0) xs ∙ ap (λ ys. pos 0 +ℤ total ys) (sym (map-id xs) ∙ m) ∙ omega (arith, ints) in
+    let n : Near (2 ^ 49) c.sum.result = subst (Near (2 ^ 49)) (sym e) (near_more (length ps * 2 ^ 40) (2 ^ 49) (total (multipliers ps)) (omega (arith, c.requires)) (near_total ps)) in
+    record { sum = search rules ∙ e; near = search (rules, n) }
