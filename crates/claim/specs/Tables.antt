@@ -82,10 +82,10 @@ NodeIn n END = Unit {0}
 abbrev pub EndsIn : ℕ → Conflict → Type 0
 EndsIn n c = NodeIn n c.from × NodeIn n c.to
 
-NodeIn-prop : (n : ℕ) (u : Node) → IsProp (NodeIn n u)
-NodeIn-prop n START = Unit-prop
-NodeIn-prop n (at v) = le_prop
-NodeIn-prop n END = Unit-prop
+node_in_prop : (n : ℕ) (u : Node) → IsProp (NodeIn n u)
+node_in_prop n START = Unit-prop
+node_in_prop n (at v) = le_prop
+node_in_prop n END = Unit-prop
 
-pub EndsIn-prop : (n : ℕ) (c : Conflict) → IsProp (EndsIn n c)
-EndsIn-prop n c = ×_prop (NodeIn-prop n c.from) (NodeIn-prop n c.to)
+pub ends_in_prop : (n : ℕ) (c : Conflict) → IsProp (EndsIn n c)
+ends_in_prop n c = ×_prop (node_in_prop n c.from) (node_in_prop n c.to)

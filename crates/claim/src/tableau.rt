@@ -24,7 +24,7 @@ pub struct Tableau<'a> {
 
 impl<'a> Tableau<'a> {
     // The tableau of a sheet, from the pairs of its rows.
-    // Kept: the length is asked for here and by `divide` alone, where a tableau is made.
+    // Kept: a type for pairs of this number is no plainer: it is asked for here and by `divide` alone.
     pub(crate) fn new(sheet: &'a Sheet, pairs: &'a [[u32; 2]], scale: Denominator) -> Tableau<'a>
         requires { length pairs.now ≡ length (row_list (view sheet.now)) }
         ensures sheet { result.sheet.now ≡ sheet.now }

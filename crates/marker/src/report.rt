@@ -159,6 +159,7 @@ mod sheet_tests {
     // Whether this is what is printed for the input.
     // Kept: the two helpers try different calls.
     fn prints(marker: &mut Marker, input: &[u8], text: &[u8]) -> bool {
+        // Kept: a line is written without allocating, into memory that is lent.
         let mut out = [0; MOST_LINE];
         let answer = marker.sheet(input, &mut out, 0);
         answer.is_ok_and(|end| out.get(..end) == Some(text))

@@ -6,7 +6,7 @@ use std::alloc::{AllocError, Global};
 #[derive(Drop)]
 pub struct BoundedVec<T, const N: usize> {
     list: Vec<T>,
-    // Kept: room and limit are facts of the type, once for all lists.
+    // Kept: memory is reserved beforehand, so room and limit have to be stated; here they are, once for all lists.
     ghost room: { N ≤ vec_capacity list },
     ghost few: { vec_len list ≤ N },
 }

@@ -5,7 +5,7 @@ ghost use Rattle.sheet.specs.ConflictList.{conflicts as conflict_list};
 ghost use Rattle.sheet.specs.Rows.{P, foreign as is_foreign};
 ghost use Rattle.claim.specs.Shares.{Near, FirstLow, rank, share_of_source, share_of_target};
 ghost use Rattle.claim.specs.Tableau.{sheet_in, weights_in, passes};
-ghost use Rattle.claim.specs.Tables.{SetsFit, UsedTable, RankTable, EndsIn, EndsIn-prop};
+ghost use Rattle.claim.specs.Tables.{SetsFit, UsedTable, RankTable, EndsIn, ends_in_prop};
 
 use crate::rows::value::at;
 use crate::scaled::Scaled;
@@ -27,7 +27,7 @@ pub struct ConflictColumn<'a> {
     tableau: Tableau<'a>,
     conflict: Conflict,
     row: usize,
-    ghost ends: { EndsIn (length (sheet_in tableau).lblocks) conflict } by { EndsIn-prop _ conflict },
+    ghost ends: { EndsIn (length (sheet_in tableau).lblocks) conflict } by { ends_in_prop _ conflict },
     ghost ranked: { row ≡ rank (sheet_in tableau) conflict.set },
     ghost used: { row < length (weights_in tableau).sets },
 }

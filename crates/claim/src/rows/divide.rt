@@ -10,7 +10,7 @@ use sheet::timing::Sheet;
 
 // Two rows for each block, one for each loop and each fact, an arrival and a departure row for each l-block, one for each used set, and a
 // miss row for each l-block.
-// Kept: the length is asked for here and by Tableau::new alone, where a tableau is made.
+// Kept: a type for pairs of this number is no plainer: it is asked for here and by `Tableau::new` alone.
 pub(crate) fn divide<'a>(sheet: &Sheet, pairs: &'a [[u32; 2]]) -> Rows<'a>
     requires { length pairs.now ≡ length (row_list (view sheet.now)) }
     ensures sized { Sized (view sheet.now) (weights result) }

@@ -1,4 +1,4 @@
-// Lists what traversals find. Where there would be more than 4,096 conflict edges, the set is answered with which they pass them.
+// Lists what traversals find. Where there would be more than 4,096 conflict edges, the fault names the set with which they pass them.
 ghost use Rattle.std.specs.Prelude.{◌≡◌, ◌<◌, [], ◌∷◌, length, nat_eq};
 ghost use Rattle.words.specs.Lists.{any};
 ghost use Rattle.sheet.specs.ConflictList.{conflicts_from, conflicts_of};

@@ -29,7 +29,7 @@ pub struct Reach {
     pub queue: BoundedVec<usize, MOST_LBLOCKS>,
 }
 
-// Kept: `Going`, `Sees`, `On` and `Starts` tie a traversal to a graph that it cannot hold: its memory is reserved once, for many graphs.
+// Kept: `Going`, `Sees`, `On` and `Starts` tie a traversal or its source to a graph that it cannot hold: its memory is reserved once, for many graphs.
 impl Reach {
     pub(crate) fn reserve(heap: Global) -> Result<Reach, AllocError> {
         Ok(Reach {
