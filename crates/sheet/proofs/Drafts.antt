@@ -1,5 +1,6 @@
 -- The items that the code holds, and the sheet that they are. Assumes nothing.
-use Rattle.std.proofs.Common.{◌≡◌, ℕ, Bool, true, false, cond, not, ◌&&◌, ◌||◌, eqb, List, [], ◌∷◌, map, filter, refl, ap}
+use Rattle.std.proofs.Common.{◌≡◌, ℕ, Bool, true, false, cond, not, ◌&&◌, ◌||◌, eqb, nat_lt, List, [], ◌∷◌, length, map, filter, refl, sym, ap, arith}
+use Rattle.std.proofs.lemmas.Bool.{lt-ltb}
 use Rattle.std.specs.List.{list_any}
 use Rattle.words.specs.Lists.{any}
 use Rattle.words.specs.Words.{empty}
@@ -10,6 +11,16 @@ use Rattle.sheet.specs.Drafts.{backs_of}
 pub any_is : {A : Type 0} (p : A → Bool) (xs : List A) → any p xs ≡ list_any p xs
 any_is p [] = refl
 any_is p (x ∷ xs) = ap (λ b. p x || b) (any_is p xs)
+
+-- a test passes somewhere exactly when what passes it is counted above 0
+pub any_count : {A : Type 0} (p : A → Bool) (xs : List A) → any p xs ≡ nat_lt 0 (length (filter p xs))
+any_count p [] = refl
+any_count p (x ∷ xs) = go (p x) (any_count p xs)
+  where
+    go : (t : Bool) → any p xs ≡ nat_lt 0 (length (filter p xs))
+        → (t || any p xs) ≡ nat_lt 0 (length (cond t (x ∷ filter p xs) (filter p xs)))
+    go true e = sym (lt-ltb _ _ (omega arith))
+    go false e = e
 
 -- tests over the back edges of a loop
 module _ (s k : ℕ) where

@@ -6,8 +6,9 @@ use std::alloc::{AllocError, Global};
 #[derive(Drop)]
 pub struct BoundedVec<T, const N: usize> {
     list: Vec<T>,
-    // Kept: memory is reserved beforehand, so room and limit have to be stated; here they are, once for all lists.
-    ghost room: { N ≤ vec_capacity list },
+    // Kept: memory is reserved beforehand, so room and limit have to be stated; here they are, once for all lists. The room is exactly N, so
+    // that no call takes more.
+    ghost room: { vec_capacity list ≡ N },
     ghost few: { vec_len list ≤ N },
 }
 
@@ -68,12 +69,26 @@ impl<T: Copy + Drop, const N: usize> BoundedVec<T, N> {
         self.list[i] = item;
     }
 
-    // So many times the same item.
+    // So many times the same item. What is there already is written over, which takes less time than to add each item anew.
     pub(crate) fn refill(&mut self, n: usize, item: T)
         requires { n ≤ N }
         ensures { self.new.list.items ≡ replicate n item }
     {
-        self.list.clear();
-        self.list.resize(n, item).unwrap();
+        self.list.truncate(n);
+        overwrite(self.list.as_mut_slice(), item);
+        // Kept: `resize` does not promise that it takes no memory.
+        for _ in self.list.len()..n {
+            self.list.push_reserved(item);
+        }
+    }
+}
+
+// Every item becomes the same.
+fn overwrite<T: Copy>(items: &mut [T], item: T)
+    ensures { items.new ≡ replicate (length items.old) item }
+{
+    // Kept: a slice's `fill` asks for a `clone` that cannot fail, and a `Copy` type promises none.
+    for i in 0..items.len() {
+        items[i] = item;
     }
 }
