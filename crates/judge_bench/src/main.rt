@@ -6,7 +6,7 @@ use claim::judge::judge;
 use sheet::room::SheetRoom;
 use std::alloc::{AllocError, Global};
 use std::io;
-use std::io::Read;
+use std::io::{BufReader, Read};
 use std::time::{Duration, Instant};
 use words::refusal::{Refusal, Refuse};
 use words::word::Kind;
@@ -94,18 +94,25 @@ fn time_judge(rt: &HostRuntime, room: &SheetRoom, bytes: &[u8]) -> anyhow::Resul
     Ok(())
 }
 
-// Times what standard input has.
-fn run(rt: &HostRuntime) -> anyhow::Result<()> {
+// What standard input has, up to the most that is timed. A read asks for all that is left of that, so that it takes a whole message of a socket.
+fn read_input(rt: &HostRuntime) -> anyhow::Result<Vec<u8>> {
     let heap = rt.alloc();
-    let mut room = SheetRoom::reserve(heap)?;
     // One byte more, so that the end is seen without more room.
     let mut input = Vec::with_capacity(heap, MOST_INPUT + 1)?;
-    rt.stdin().take(MOST_INPUT as u64).read_to_end(&mut input)?;
+    let limited = rt.stdin().take(MOST_INPUT as u64);
+    BufReader::with_capacity(heap, MOST_INPUT, limited)?.read_to_end(&mut input)?;
+    Ok(input)
+}
+
+// Times what standard input has.
+fn run(rt: &HostRuntime) -> anyhow::Result<()> {
+    let input = read_input(rt)?;
     if input.is_empty() {
         println!(rt; "nothing to time")?;
         return Ok(());
     }
     let (sheet, certificate) = split_list(&input);
+    let mut room = SheetRoom::reserve(rt.alloc())?;
     time_sheet(rt, &mut room, sheet)?;
     time_judge(rt, &room, certificate)
 }
